@@ -1,0 +1,108 @@
+-- A sheet is accepted precisely when none of the rules J1 to J10 is broken. Assumes nothing.
+use mathlib.Core.Path.{_≡_, refl}
+use mathlib.Core.Bool.{Bool, true, false, cond}
+use mathlib.Core.List.{List, [], _∷_}
+use Prim.Native.Nat.{ℕ, zero, suc, _+_, _≤_, _<_}
+use native.Mathlib.Omega.{arith}
+use lib.Dec.{eqb}
+use borrow.Author.Tests.{eqb-true, eqb-false}
+use Rattle.rules.specs.declared.Chip.{Chip}
+use Rattle.rules.specs.declared.Refusal.{Refusal}
+use Rattle.rules.specs.declared.Verdict.{Verdict}
+use Rattle.rules.specs.declared.Verdict.the-variants.{Accepted, Refused}
+use Rattle.rules.specs.Sheet.{count, J1, J2, J3, J4, J5, J6, J7, J8, J9, J10, firstBroken, andThen, headVerdict, entryVerdict, entriesVerdict, tailVerdict, verdict}
+
+-- no rule of an entry is broken
+pub record EntryAllowed (chip : Chip) (s : List ℕ) (i : ℕ) : Type 0 where
+  pub j4 : J4 s i ≡ false
+  pub j5 : J5 s i ≡ false
+  pub j6 : J6 chip s i ≡ false
+  pub j7 : J7 s i ≡ false
+  pub j8 : J8 s i ≡ false
+
+-- no rule of a sheet is broken
+pub record Allowed (chip : Chip) (s : List ℕ) (room : ℕ) : Type 0 where
+  pub j1 : J1 s ≡ false
+  pub j2 : J2 s ≡ false
+  pub j3 : J3 s ≡ false
+  pub entries : (i : ℕ) → i < count s → EntryAllowed chip s i
+  pub j9 : J9 s ≡ false
+  pub j10 : J10 s room ≡ false
+
+-- a rule and those behind it
+refused≢accepted : (n : Refusal) → Refused n ≡ Accepted → ⊥
+refused≢accepted n e = let z : _≡_ {A = ℕ} 0 1 = cc in omega arith
+
+unbroken : (b : Bool) (n : Refusal) (v : Verdict) → cond b (Refused n) v ≡ Accepted → (b ≡ false) × (v ≡ Accepted)
+unbroken true n v e = absurd (refused≢accepted n e)
+unbroken false n v e = (refl, e)
+
+both : (a b : Verdict) → andThen a b ≡ Accepted → (a ≡ Accepted) × (b ≡ Accepted)
+both Accepted b e = (refl, e)
+both (Refused n) b e = absurd (refused≢accepted n e)
+
+-- an entry
+entry-allowed : (chip : Chip) (s : List ℕ) (i : ℕ) → entryVerdict chip s i ≡ Accepted → EntryAllowed chip s i
+unfolding entryVerdict firstBroken
+entry-allowed chip s i e =
+    let a = unbroken (J4 s i) _ _ e in
+    let b = unbroken (J5 s i) _ _ (a .1) in
+    let c = unbroken (J6 chip s i) _ _ (b .1) in
+    let d = unbroken (J7 s i) _ _ (c .1) in
+    let f = unbroken (J8 s i) _ _ (d .1) in
+    record { j4 = a .0; j5 = b .0; j6 = c .0; j7 = d .0; j8 = f .0 }
+
+pub entry-accepted : (chip : Chip) (s : List ℕ) (i : ℕ) → EntryAllowed chip s i → entryVerdict chip s i ≡ Accepted
+unfolding entryVerdict firstBroken
+entry-accepted chip s i a = rw (a .j4, a .j5, a .j6, a .j7, a .j8)
+
+-- the entries from i on
+entries-allowed : (chip : Chip) (s : List ℕ) (i left : ℕ)
+    → entriesVerdict chip s i left ≡ Accepted
+    → (k : ℕ) → i ≤ k → k < i + left → EntryAllowed chip s k
+unfolding entriesVerdict
+entries-allowed chip s i zero e k a b = absurd (omega arith)
+entries-allowed chip s i (suc left) e k a b = go (entries-allowed chip s (i + 1) left (parts .1) k) (eqb i k) refl
+  where
+    parts : (entryVerdict chip s i ≡ Accepted) × (entriesVerdict chip s (i + 1) left ≡ Accepted)
+    parts = both (entryVerdict chip s i) (entriesVerdict chip s (i + 1) left) e
+
+    go : (i + 1 ≤ k → k < i + 1 + left → EntryAllowed chip s k) → (t : Bool) → eqb i k ≡ t → EntryAllowed chip s k
+    go later true h = rw (← eqb-true i k h) (entry-allowed chip s i (parts .0))
+    go later false h = let n = eqb-false i k h in later (omega arith) (omega arith)
+
+entries-accepted : (chip : Chip) (s : List ℕ) (i left : ℕ)
+    → ((k : ℕ) → i ≤ k → k < i + left → EntryAllowed chip s k)
+    → entriesVerdict chip s i left ≡ Accepted
+unfolding entriesVerdict
+entries-accepted chip s i zero h = refl
+entries-accepted chip s i (suc left) h =
+    rw (entry-accepted chip s i (h i (omega arith) (omega arith)))
+    (entries-accepted chip s (i + 1) left (λ k a b. h k (omega arith) (omega arith)))
+
+-- THE LAW
+pub accepted-allowed : (chip : Chip) (s : List ℕ) (room : ℕ) → verdict chip s room ≡ Accepted → Allowed chip s room
+unfolding verdict headVerdict tailVerdict firstBroken
+accepted-allowed chip s room e =
+    let h = both (headVerdict s) _ e in
+    let t = both (entriesVerdict chip s 0 (count s)) _ (h .1) in
+    let a = unbroken (J1 s) _ _ (h .0) in
+    let b = unbroken (J2 s) _ _ (a .1) in
+    let c = unbroken (J3 s) _ _ (b .1) in
+    let y = unbroken (J9 s) _ _ (t .1) in
+    let z = unbroken (J10 s room) _ _ (y .1) in
+    record {
+      j1 = a .0;
+      j2 = b .0;
+      j3 = c .0;
+      entries = λ i l. entries-allowed chip s 0 (count s) (t .0) i (omega arith) (omega arith);
+      j9 = y .0;
+      j10 = z .0;
+    }
+
+pub allowed-accepted : (chip : Chip) (s : List ℕ) (room : ℕ) → Allowed chip s room → verdict chip s room ≡ Accepted
+unfolding verdict headVerdict tailVerdict firstBroken
+allowed-accepted chip s room a =
+    let l : entriesVerdict chip s 0 (count s) ≡ Accepted =
+    entries-accepted chip s 0 (count s) (λ k _ b. a .entries k (omega arith)) in
+    rw (a .j1, a .j2, a .j3, l, a .j9, a .j10)

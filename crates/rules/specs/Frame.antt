@@ -1,0 +1,115 @@
+-- 01, Frames, and Status bytes and their order (001, section 5): building a frame, reading one, judging it. Assumes nothing.
+use Prim.Native.Nat.{ℕ, _+_, _-_, _*_, _%_}
+use mathlib.Core.Bool.{Bool, true, false, cond, not, _&&_, _||_}
+use mathlib.Core.List.{List, [], _∷_, _++_}
+use lib.Dec.{ltb, leb, eqb}
+use lib.ListN.{length, take, drop}
+use Rattle.rules.specs.declared.Fault.{Fault}
+use Rattle.rules.specs.declared.Fault.the-variants.{Well, EndByte, Sum, Code, Length, Parameter, Ident, NotBlank, Protected, PageNotBlank, Difference}
+use Rattle.rules.specs.Chip.{byteAt, total}
+
+-- "Command: 01h, .., 03h. Data: 02h, .., 03h for the last, 17h where more follow"
+abbrev pub commandStart : ℕ
+commandStart = 0x01
+
+abbrev pub dataStart : ℕ
+dataStart = 0x02
+
+abbrev pub lastEnd : ℕ
+lastEnd = 0x03
+
+abbrev pub moreEnd : ℕ
+moreEnd = 0x17
+
+abbrev pub endDue : Bool → ℕ
+endDue true = lastEnd
+endDue false = moreEnd
+
+-- "LEN 00h means 256"; LEN fixes where the end byte is looked for
+unfoldable pub bodySize : ℕ → ℕ
+bodySize len = cond (eqb len 0x00) 256 len
+
+unfoldable pub frameSize : ℕ → ℕ
+unfolding bodySize
+frameSize len = bodySize len + 4
+
+-- building: "LEN + body + SUM is 0 modulo 256"
+abbrev pub lenByte : List ℕ → ℕ
+lenByte body = length body % 256
+
+unfoldable pub sumByte : List ℕ → ℕ
+sumByte body = (256 - (lenByte body + total body) % 256) % 256
+
+unfoldable pub frame : ℕ → ℕ → List ℕ → List ℕ
+frame start end body = start ∷ lenByte body ∷ (body ++ (sumByte body ∷ end ∷ []))
+
+-- answers of one byte and of two
+abbrev pub one : ℕ → List ℕ
+one a = frame dataStart lastEnd (a ∷ [])
+
+abbrev pub pair : ℕ → ℕ → List ℕ
+pair a b = frame dataStart lastEnd (a ∷ b ∷ [])
+
+-- reading: LEN, body, end byte, and whether the SUM holds
+abbrev pub lenOf : List ℕ → ℕ
+lenOf f = byteAt f 1
+
+abbrev pub bodyOf : List ℕ → List ℕ
+bodyOf f = take (bodySize (lenOf f)) (drop 2 f)
+
+abbrev pub endOf : List ℕ → ℕ
+endOf f = byteAt f (bodySize (lenOf f) + 3)
+
+abbrev pub sumHolds : List ℕ → Bool
+sumHolds f = eqb (total (take (bodySize (lenOf f) + 2) (drop 1 f)) % 256) 0
+
+-- what has come is a whole frame
+unfoldable pub whole : List ℕ → Bool
+whole g = leb 2 (length g) && eqb (length g) (frameSize (lenOf g))
+
+-- ---- Status bytes and their order ----
+
+-- the place in 01's table, and the byte
+pub record Row : Type 0 where
+  pub place : ℕ
+  pub byte : ℕ
+
+abbrev row : ℕ → ℕ → Row
+row p b = record { place = p; byte = b }
+
+abbrev pub statusRow : Fault → Row
+statusRow Well = row 0 0x06
+statusRow EndByte = row 1 0x15
+statusRow Sum = row 2 0x07
+statusRow Code = row 3 0x04
+statusRow Length = row 4 0x15
+statusRow Parameter = row 5 0x05
+statusRow Ident = row 6 0x24
+statusRow NotBlank = row 7 0x1B
+statusRow Protected = row 8 0x10
+statusRow PageNotBlank = row 9 0x1C
+statusRow Difference = row 10 0x0F
+
+abbrev pub statusByte : Fault → ℕ
+statusByte f = statusRow f .byte
+
+-- "First that applies"
+pub record Check : Type 0 where
+  pub fault : Fault
+  pub applies : Bool
+
+abbrev pub check : Fault → Bool → Check
+check f b = record { fault = f; applies = b }
+
+unfoldable pub first : List Check → Fault
+first [] = Well
+first (c ∷ cs) = cond (c .applies) (c .fault) (first cs)
+
+-- a data frame: 15h also "03h for 17h or the reverse"; then SUM; then "data LEN not 00h"
+unfoldable pub dataFault : Bool → List ℕ → Fault
+dataFault last f =
+    first
+    (check EndByte (not (eqb (endOf f) (endDue last)))
+    ∷ check Sum (not (sumHolds f))
+    ∷ check Length (not (eqb (lenOf f) 0x00))
+    ∷ [])

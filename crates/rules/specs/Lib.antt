@@ -1,0 +1,12 @@
+pub mod Chip
+pub mod Options
+pub mod Frame
+pub mod Command
+pub mod StandIn
+pub mod Sheet
+pub mod Meaning
+pub mod Player
+pub mod Numbers
+pub mod Run
+pub mod Compute
+pub mod Trials

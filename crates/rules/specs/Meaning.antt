@@ -1,0 +1,138 @@
+-- 01, Plain meaning and report: what a sheet does to flash, and its report, without packets. Assumes nothing.
+use Prim.Native.Nat.{ℕ, zero, suc, _+_, _-_, _*_, min}
+use mathlib.Core.Bool.{Bool, true, false, cond, not, _&&_, _||_}
+use mathlib.Core.List.{List, [], _∷_, _++_}
+use lib.Dec.{ltb, leb, eqb}
+use lib.ListN.{set}
+use Rattle.rules.specs.declared.Chip.{Chip}
+use Rattle.rules.specs.declared.Flash.{Flash}
+use Rattle.rules.specs.declared.Options.{Options}
+use Rattle.rules.specs.declared.Kind.{Kind}
+use Rattle.rules.specs.declared.Kind.the-variants.{Erase, Write, Verify, Sum}
+use Rattle.rules.specs.declared.Step.{Step}
+use Rattle.rules.specs.declared.Status.{Status}
+use Rattle.rules.specs.declared.Status.the-variants.{Byte, L1}
+use Rattle.rules.specs.declared.Report.{Report}
+use Rattle.rules.specs.Chip.{Memory, same, blank, block, firstPage, pageOf, putPage, blockOfPage, eraseBlock, bytesFrom, checksum}
+use Rattle.rules.specs.Options.{eraseProtected, writeProtected}
+use Rattle.rules.specs.Sheet.{count, stepAt, stepBlocks, stepPages, bodyOf, bodyPage}
+
+-- pieces done one after the other, up to the first that fails: the memory, how many were done, and the status
+pub record Tried : Type 0 where
+  pub memory : Memory
+  pub done : ℕ
+  pub status : ℕ
+
+abbrev tried : Memory → ℕ → ℕ → Tried
+tried m n st = record { memory = m; done = n; status = st }
+
+-- "Erase: each block upward, 10h at a protected one": n blocks are done, so many are left
+unfoldable pub eraseFrom : Options → Step → Memory → ℕ → ℕ → Tried
+eraseFrom o t m n zero = tried m n 0x06
+eraseFrom o t m n (suc left) =
+    let b = block (t .first .0 + n) in
+    let later = eraseFrom o t (eraseBlock m (t .flash) b) (n + 1) left in
+    cond (eraseProtected o (t .flash) b) (tried m n 0x10) later
+
+-- "Write: each page upward, 10h if protected, else 1Ch if not blank, else copied; earlier pages stay"
+unfoldable pub writeFrom : Options → List ℕ → Step → Memory → ℕ → ℕ → Tried
+writeFrom o s t m n zero = tried m n 0x06
+writeFrom o s t m n (suc left) =
+    let f = t .flash in
+    let k = firstPage f (t .first) + n in
+    let later = writeFrom o s t (putPage m f k (bodyPage s t n)) (n + 1) left in
+    cond (writeProtected o f (blockOfPage f k))
+    (tried m n 0x10)
+    (cond (blank (pageOf m f k)) later (tried m n 0x1C))
+
+-- what a step comes to
+pub record Done : Type 0 where
+  pub memory : Memory
+  pub status : ℕ
+  pub pieces : ℕ
+  pub frames : ℕ
+  pub sum : ℕ
+
+-- Frames: "erase one per block tried"; pieces: "blocks erased before it"
+unfoldable pub eraseDone : Tried → Done
+eraseDone w =
+    record {
+      memory = w .memory;
+      status = w .status;
+      pieces = cond (eqb (w .status) 0x06) 0 (w .done);
+      frames = cond (eqb (w .status) 0x06) (w .done) (w .done + 1);
+      sum = 0;
+    }
+
+-- Frames: "write 1 + pages, or, if page j of p fails, 1 + the smaller of j + 1 and p"; pieces: "j − 1, but p − 2 if j = p and p is 2 or more"
+abbrev pub writePieces : ℕ → ℕ → ℕ
+writePieces j p = cond (eqb j p && leb 2 p) (p - 2) (j - 1)
+
+unfoldable pub writeDone : ℕ → Tried → Done
+writeDone p w =
+    record {
+      memory = w .memory;
+      status = w .status;
+      pieces = cond (eqb (w .status) 0x06) 0 (writePieces (w .done + 1) p);
+      frames = cond (eqb (w .status) 0x06) (1 + p) (1 + min (w .done + 1 + 1) p);
+      sum = 0;
+    }
+
+-- one step, by its kind. Frames: "sum one; verify 1 + pages"
+stepDone : Kind → Options → List ℕ → Step → Memory → Done
+stepDone Erase o s t m = eraseDone (eraseFrom o t m 0 (stepBlocks t))
+stepDone Write o s t m = writeDone (stepPages t) (writeFrom o s t m 0 (stepPages t))
+stepDone Verify o s t m =
+    record {
+      memory = m;
+      status = cond (same (bytesFrom m (t .flash) (t .first) (t .last)) (bodyOf s t)) 0x06 0x0F;
+      pieces = 0;
+      frames = 1 + stepPages t;
+      sum = 0;
+    }
+stepDone Sum o s t m =
+    record {
+      memory = m;
+      status = 0x06;
+      pieces = 0;
+      frames = 1;
+      sum = checksum (bytesFrom m (t .flash) (t .first) (t .last));
+    }
+
+-- ONE STEP
+unfoldable pub stepMeaning : Options → List ℕ → Step → Memory → Done
+unfolding stepDone
+stepMeaning o s t m = stepDone (t .kind) o s t m
+
+-- what a play comes to
+pub record Ended : Type 0 where
+  pub memory : Memory
+  pub options : Options
+  pub report : Report
+  pub sums : List ℕ
+
+-- "Steps run in order up to the first that fails": step i and those behind it, so many, after so many frames
+unfoldable pub meaningFrom : Chip → List ℕ → Options → Memory → ℕ → ℕ → List ℕ → ℕ → Ended
+meaningFrom chip s o m i frames sums zero =
+    record {
+      memory = m;
+      options = o;
+      report = record { status = Byte 0x06; steps = i; frames = frames; pieces = 0 };
+      sums = sums;
+    }
+meaningFrom chip s o m i frames sums (suc left) =
+    let d = stepMeaning o s (stepAt chip s i) m in
+    let later = meaningFrom chip s o (d .memory) (i + 1) (frames + d .frames) (set sums i (d .sum)) left in
+    let stopped : Ended =
+    record {
+      memory = d .memory;
+      options = o;
+      report =
+          record { status = Byte (d .status); steps = i; frames = frames + d .frames; pieces = d .pieces };
+      sums = sums;
+    } in
+    cond (eqb (d .status) 0x06) later stopped
+
+-- THE MEANING of an accepted sheet, on options, flash and a list for sums
+unfoldable pub meaning : Chip → List ℕ → Options → Memory → List ℕ → Ended
+meaning chip s o m sums = meaningFrom chip s o m 0 0 sums (count s)

@@ -1,0 +1,68 @@
+-- 01's own number or value for each case of an enum that is an answer. Assumes nothing.
+use Prim.Native.Nat.{ℕ}
+use Rattle.rules.specs.declared.Refusal.{Refusal}
+use Rattle.rules.specs.declared.Refusal.the-variants.{D1, D2, D3, J1, J2, J3, J4, J5, J6, J7, J8, J9, J10, P1, P2}
+use Rattle.rules.specs.declared.Call.{Call}
+use Rattle.rules.specs.declared.Call.the-variants as call
+use Rattle.rules.specs.declared.Verdict.{Verdict}
+use Rattle.rules.specs.declared.Verdict.the-variants as verdict
+use Rattle.rules.specs.declared.Next.{Next}
+use Rattle.rules.specs.declared.Next.the-variants as next
+use Rattle.rules.specs.declared.Status.{Status}
+use Rattle.rules.specs.declared.Status.the-variants.{Byte, L1}
+use Rattle.rules.specs.declared.Kind.{Kind}
+use Rattle.rules.specs.declared.Kind.the-variants.{Erase, Write, Verify, Sum}
+
+-- a letter of 01's names by its ASCII code (0 for none), and the number behind it
+pub record Number : Type 0 where
+  pub letter : ℕ
+  pub number : ℕ
+
+abbrev number : ℕ → ℕ → Number
+number l n = record { letter = l; number = n }
+
+-- Status bytes (D), The job sheet (J, P)
+abbrev pub refusalNumber : Refusal → Number
+refusalNumber D1 = number 0x44 1
+refusalNumber D2 = number 0x44 2
+refusalNumber D3 = number 0x44 3
+refusalNumber J1 = number 0x4A 1
+refusalNumber J2 = number 0x4A 2
+refusalNumber J3 = number 0x4A 3
+refusalNumber J4 = number 0x4A 4
+refusalNumber J5 = number 0x4A 5
+refusalNumber J6 = number 0x4A 6
+refusalNumber J7 = number 0x4A 7
+refusalNumber J8 = number 0x4A 8
+refusalNumber J9 = number 0x4A 9
+refusalNumber J10 = number 0x4A 10
+refusalNumber P1 = number 0x50 1
+refusalNumber P2 = number 0x50 2
+
+-- a byte call: the refusal, or the length of the answer
+abbrev pub callNumber : Call → Number
+callNumber (call.Refused n) = refusalNumber n
+callNumber (call.Answer n) = number 0 n
+
+-- a sheet's verdict: the refusal, or nothing
+abbrev pub verdictNumber : Verdict → Number
+verdictNumber verdict.Accepted = number 0 0
+verdictNumber (verdict.Refused n) = refusalNumber n
+
+-- a player call: the refusal, the length of the frame, or 0 at the end
+abbrev pub nextNumber : Next → Number
+nextNumber (next.Refused n) = refusalNumber n
+nextNumber (next.Frame n) = number 0 n
+nextNumber next.End = number 0 0
+
+-- a report's status: a byte of the status table, or L1
+abbrev pub statusNumber : Status → Number
+statusNumber (Byte b) = number 0 b
+statusNumber L1 = number 0x4C 1
+
+-- "Kinds: 1 erase, 2 write, 3 verify, 4 sum"
+abbrev pub kindNumber : Kind → ℕ
+kindNumber Erase = 1
+kindNumber Write = 2
+kindNumber Verify = 3
+kindNumber Sum = 4

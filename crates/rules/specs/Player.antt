@@ -1,0 +1,294 @@
+-- 01, The job sheet (player calls) and Plain meaning and report (replies): the player, over its own record. Assumes nothing.
+use Prim.Native.Nat.{ℕ, _+_, _-_, _*_, _%_}
+use mathlib.Core.Bool.{Bool, true, false, cond, not, _&&_, _||_}
+use mathlib.Core.List.{List, [], _∷_, _++_}
+use lib.Dec.{ltb, leb, eqb}
+use lib.ListN.{length, take, drop, set}
+use Rattle.rules.specs.declared.Chip.{Chip}
+use Rattle.rules.specs.declared.Address.{Address}
+use Rattle.rules.specs.declared.Refusal.{Refusal}
+use Rattle.rules.specs.declared.Refusal.the-variants.{P1, P2}
+use Rattle.rules.specs.declared.Verdict.{Verdict}
+use Rattle.rules.specs.declared.Verdict.the-variants.{Accepted}
+use Rattle.rules.specs.declared.Verdict.the-variants as v
+use Rattle.rules.specs.declared.Kind.{Kind}
+use Rattle.rules.specs.declared.Kind.the-variants.{Erase, Write, Verify, Sum}
+use Rattle.rules.specs.declared.Step.{Step}
+use Rattle.rules.specs.declared.Stage.{Stage}
+use Rattle.rules.specs.declared.Stage.the-variants.{New, Ready, Erased, Opened, Summed, Page, Paged, Over}
+use Rattle.rules.specs.declared.Status.{Status}
+use Rattle.rules.specs.declared.Status.the-variants.{Byte, L1}
+use Rattle.rules.specs.declared.Player.{Player}
+use Rattle.rules.specs.declared.Report.{Report}
+use Rattle.rules.specs.declared.Next.{Next}
+use Rattle.rules.specs.declared.Next.the-variants.{Refused, Frame, End}
+use Rattle.rules.specs.Chip.{byteAt, wordAt, addressBytes, total, over, block, firstByte, lastByte}
+use Rattle.rules.specs.Frame.{commandStart, dataStart, lastEnd, endDue, frame}
+use Rattle.rules.specs.Sheet.{count, stepAt, stepBlocks, stepPages, bodyPage, verdict, andThen}
+
+abbrev pub player : Stage → ℕ → ℕ → ℕ → ℕ → Status → Player
+player g i a n k st = record { stage = g; step = i; at = a; frames = n; pieces = k; status = st }
+
+abbrev pub well : Status
+well = Byte 0x06
+
+-- a player before its first call
+abbrev pub newPlayer : Player
+newPlayer = player New 0 0 0 0 well
+
+-- ---- replies ----
+
+-- one data frame of n bytes and nothing more, "correct in start, LEN, SUM and end 03h"
+unfoldable pub framed : ℕ → List ℕ → Bool
+framed n r =
+    eqb (length r) (n + 4)
+    && eqb (byteAt r 0) dataStart
+    && eqb (byteAt r 1) n
+    && eqb (total (take (n + 2) (drop 1 r)) % 256) 0
+    && eqb (byteAt r (n + 3)) lastEnd
+
+-- "Due to a command frame is one frame of one byte"
+unfoldable pub commandReply : List ℕ → Status
+commandReply r = cond (framed 1 r) (Byte (byteAt r 2)) L1
+
+-- "followed, for a sum whose byte is 06h, by one of two bytes"
+unfoldable pub sumReply : List ℕ → Status
+unfolding commandReply
+sumReply r =
+    cond (framed 1 (take 5 r) && eqb (byteAt r 2) 0x06)
+    (cond (framed 2 (drop 5 r)) well L1)
+    (commandReply r)
+
+abbrev pub sumIn : List ℕ → ℕ
+sumIn r = wordAt r 7
+
+-- "to a data frame, one of two bytes"; "The status of a pair is its first byte unless that is 06h, then its second"
+unfoldable pub dataReply : List ℕ → Status
+dataReply r = cond (framed 2 r) (Byte (cond (eqb (byteAt r 2) 0x06) (byteAt r 3) (byteAt r 2))) L1
+
+-- "any but 06h stops the play"
+abbrev pub isWell : Status → Bool
+isWell (Byte b) = eqb b 0x06
+isWell L1 = false
+
+-- ---- taking a reply in ----
+
+pub record Absorbed : Type 0 where
+  pub player : Player
+  pub sums : List ℕ
+
+abbrev pub absorbs : Player → List ℕ → Absorbed
+absorbs p sums = record { player = p; sums = sums }
+
+-- stopped in the step in hand, with so many pieces
+abbrev pub stopped : Player → Status → ℕ → List ℕ → Absorbed
+stopped p st pieces sums = absorbs (player Over (p .step) (p .at) (p .frames) pieces st) sums
+
+-- on in the step, at that block or page
+abbrev pub goesOn : Stage → Player → ℕ → List ℕ → Absorbed
+goesOn g p at sums = absorbs (player g (p .step) at (p .frames) 0 well) sums
+
+-- the step is finished: its entry in the list of sums, and the next step or the end
+abbrev pub beginning : ℕ → ℕ → Stage
+beginning i n = cond (eqb i n) Over Ready
+
+unfoldable pub finished : List ℕ → Player → ℕ → List ℕ → Absorbed
+finished s p sum sums =
+    absorbs (player (beginning (p .step + 1) (count s)) (p .step + 1) 0 (p .frames) 0 well) (set sums (p .step) sum)
+
+-- pieces at a stop: "the pages before k by (06h, 06h) to write frame k"; a verify has none
+abbrev pub pagesSure : Kind → ℕ → ℕ
+pagesSure Erase at = 0
+pagesSure Write at = at - 1
+pagesSure Verify at = 0
+pagesSure Sum at = 0
+
+unfoldable pub erasedBlock : List ℕ → Step → Player → List ℕ → List ℕ → Absorbed
+erasedBlock s t p r sums =
+    let on = cond (eqb (p .at + 1) (stepBlocks t)) (finished s p 0 sums) (goesOn Ready p (p .at + 1) sums) in
+    cond (isWell (commandReply r)) on (stopped p (commandReply r) (p .at) sums)
+
+unfoldable pub openedPages : Player → List ℕ → List ℕ → Absorbed
+openedPages p r sums = cond (isWell (commandReply r)) (goesOn Page p 0 sums) (stopped p (commandReply r) 0 sums)
+
+unfoldable pub tookSum : List ℕ → Player → List ℕ → List ℕ → Absorbed
+tookSum s p r sums = cond (isWell (sumReply r)) (finished s p (sumIn r) sums) (stopped p (sumReply r) 0 sums)
+
+unfoldable pub sentPage : List ℕ → Step → Player → List ℕ → List ℕ → Absorbed
+sentPage s t p r sums =
+    let on = cond (eqb (p .at + 1) (stepPages t)) (finished s p 0 sums) (goesOn Page p (p .at + 1) sums) in
+    cond (isWell (dataReply r)) on (stopped p (dataReply r) (pagesSure (t .kind) (p .at)) sums)
+
+-- "The first call of a play reads no reply"; all counts start at 0
+abbrev pub begun : List ℕ → Player
+begun s = player (beginning 0 (count s)) 0 0 0 0 well
+
+absorbBy : Stage → List ℕ → Step → Player → List ℕ → List ℕ → Absorbed
+absorbBy New s t p r sums = absorbs (begun s) sums
+absorbBy Ready s t p r sums = absorbs p sums
+absorbBy Erased s t p r sums = erasedBlock s t p r sums
+absorbBy Opened s t p r sums = openedPages p r sums
+absorbBy Summed s t p r sums = tookSum s p r sums
+absorbBy Page s t p r sums = absorbs p sums
+absorbBy Paged s t p r sums = sentPage s t p r sums
+absorbBy Over s t p r sums = absorbs p sums
+
+-- A REPLY IS TAKEN IN
+unfoldable pub absorbed : Chip → List ℕ → Player → List ℕ → List ℕ → Absorbed
+unfolding absorbBy
+absorbed chip s p r sums = absorbBy (p .stage) s (stepAt chip s (p .step)) p r sums
+
+-- ---- giving the next frame ----
+
+pub record Sent : Type 0 where
+  pub player : Player
+  pub bytes : List ℕ
+
+-- the player counts frames sent; a count that cannot grow stays
+unfoldable pub counted : ℕ → ℕ
+counted n = cond (ltb n 0xFFFFFFFF) (n + 1) n
+
+-- a frame is sent, and its answer awaited
+abbrev pub sends : Stage → Player → List ℕ → Sent
+sends g p bytes =
+    record { player = player g (p .step) (p .at) (counted (p .frames)) (p .pieces) (p .status); bytes = bytes }
+
+abbrev pub silent : Player → Sent
+silent p = record { player = p; bytes = [] }
+
+abbrev pub command : List ℕ → List ℕ
+command body = frame commandStart lastEnd body
+
+abbrev pub pairCommand : ℕ → Step → List ℕ
+pairCommand code t =
+    command
+    (code ∷ (addressBytes (firstByte (t .flash) (t .first)) ++ addressBytes (lastByte (t .flash) (t .last))))
+
+abbrev pub blockCommand : Step → ℕ → List ℕ
+blockCommand t at = command (0x22 ∷ addressBytes (firstByte (t .flash) (block (t .first .0 + at))))
+
+abbrev pub pageFrame : List ℕ → Step → ℕ → List ℕ
+pageFrame s t at = frame dataStart (endDue (eqb (at + 1) (stepPages t))) (bodyPage s t at)
+
+emitReady : Kind → Step → Player → Sent
+emitReady Erase t p = sends Erased p (blockCommand t (p .at))
+emitReady Write t p = sends Opened p (pairCommand 0x40 t)
+emitReady Verify t p = sends Opened p (pairCommand 0x13 t)
+emitReady Sum t p = sends Summed p (pairCommand 0xB0 t)
+
+emitBy : Stage → List ℕ → Step → Player → Sent
+unfolding emitReady
+emitBy New s t p = silent p
+emitBy Ready s t p = emitReady (t .kind) t p
+emitBy Erased s t p = silent p
+emitBy Opened s t p = silent p
+emitBy Summed s t p = silent p
+emitBy Page s t p = sends Paged p (pageFrame s t (p .at))
+emitBy Paged s t p = silent p
+emitBy Over s t p = silent p
+
+-- THE NEXT FRAME IS GIVEN
+unfoldable pub emitted : Chip → List ℕ → Player → Sent
+unfolding emitBy
+emitted chip s p = emitBy (p .stage) s (stepAt chip s (p .step)) p
+
+-- ---- a player call ----
+
+-- "Report: status (06h if all done), steps finished, frames sent, pieces"; of an unfinished play 06h and the counts so far
+abbrev countsOf : Player → Report
+countsOf p = record { status = well; steps = p .step; frames = p .frames; pieces = 0 }
+
+reportBy : Stage → Player → Report
+reportBy New p = record { status = well; steps = 0; frames = 0; pieces = 0 }
+reportBy Ready p = countsOf p
+reportBy Erased p = countsOf p
+reportBy Opened p = countsOf p
+reportBy Summed p = countsOf p
+reportBy Page p = countsOf p
+reportBy Paged p = countsOf p
+reportBy Over p = record { status = p .status; steps = p .step; frames = p .frames; pieces = p .pieces }
+
+unfoldable pub reportOf : Player → Report
+unfolding reportBy
+reportOf p = reportBy (p .stage) p
+
+-- P2: "an unfinished play whose step, block or page is not in the given sheet"; a step that does not await this is not it
+awaits : Kind → Bool → Bool → Bool → Bool
+awaits Erase block page sum = block
+awaits Write block page sum = page
+awaits Verify block page sum = page
+awaits Sum block page sum = sum
+
+-- what a player of that stage is about stands in the step
+stands : Stage → Step → Player → Bool
+unfolding awaits
+stands New t p = true
+stands Ready t p = awaits (t .kind) (ltb (p .at) (stepBlocks t)) true true
+stands Erased t p = awaits (t .kind) (ltb (p .at) (stepBlocks t)) false false
+stands Opened t p = awaits (t .kind) false true false
+stands Summed t p = awaits (t .kind) false false true
+stands Page t p = awaits (t .kind) false (ltb (p .at) (stepPages t)) false
+stands Paged t p = awaits (t .kind) false (ltb (p .at) (stepPages t)) false
+stands Over t p = true
+
+abbrev pub unfinished : Stage → Bool
+unfinished New = false
+unfinished Ready = true
+unfinished Erased = true
+unfinished Opened = true
+unfinished Summed = true
+unfinished Page = true
+unfinished Paged = true
+unfinished Over = false
+
+unfoldable pub lost : Chip → List ℕ → Player → Bool
+unfolding stands
+lost chip s p =
+    unfinished (p .stage) && not (ltb (p .step) (count s) && stands (p .stage) (stepAt chip s (p .step)) p)
+
+-- "P1 for a frame buffer under 260 bytes"
+abbrev pub frameRoom : ℕ
+frameRoom = 260
+
+-- "A player call names a J refusal first, then P1 .., then P2"
+unfoldable pub playerVerdict : Chip → List ℕ → Player → ℕ → ℕ → Verdict
+playerVerdict chip s p room sums =
+    let later = cond (ltb room frameRoom) (v.Refused P1) (cond (lost chip s p) (v.Refused P2) Accepted) in
+    andThen (verdict chip s sums) later
+
+-- the record, the call's answer, the report and the lent buffers after a call
+pub record Called : Type 0 where
+  pub player : Player
+  pub call : Next
+  pub report : Report
+  pub frame : List ℕ
+  pub sums : List ℕ
+
+abbrev nextOf : List ℕ → Next
+nextOf [] = End
+nextOf (b ∷ bs) = Frame (length (b ∷ bs))
+
+-- one after the other: the reply is taken in, the next frame given
+unfoldable pub played : Chip → List ℕ → Player → List ℕ → List ℕ → List ℕ → Called
+played chip s p r buffer sums =
+    let a = absorbed chip s p r sums in
+    let e = emitted chip s (a .player) in
+    record {
+      player = e .player;
+      call = nextOf (e .bytes);
+      report = reportOf (e .player);
+      frame = over (e .bytes) buffer;
+      sums = a .sums;
+    }
+
+-- "state and buffers then stand"
+refusedBy : Verdict → Chip → List ℕ → Player → List ℕ → List ℕ → List ℕ → Called
+refusedBy Accepted chip s p r buffer sums = played chip s p r buffer sums
+refusedBy (v.Refused n) chip s p r buffer sums =
+    record { player = p; call = Refused n; report = reportOf p; frame = buffer; sums = sums }
+
+-- A PLAYER CALL
+unfoldable pub called : Chip → List ℕ → Player → List ℕ → List ℕ → List ℕ → Called
+unfolding refusedBy
+called chip s p r buffer sums =
+    refusedBy (playerVerdict chip s p (length buffer) (length sums)) chip s p r buffer sums

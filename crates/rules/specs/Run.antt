@@ -1,0 +1,127 @@
+-- The player and the stand-in joined by a line: built from Player and StandIn alone. Assumes nothing.
+use Prim.Native.Nat.{ℕ, zero, suc, _+_, _*_}
+use mathlib.Core.Bool.{Bool, true, false, cond}
+use mathlib.Core.List.{List, [], _∷_, _++_}
+use lib.ListN.{length}
+use Rattle.rules.specs.declared.Chip.{Chip}
+use Rattle.rules.specs.declared.Player.{Player}
+use Rattle.rules.specs.declared.Phase.{Phase}
+use Rattle.rules.specs.declared.Phase.the-variants.{Mode, Speed, Ident, Command, Silent}
+use Rattle.rules.specs.declared.Task.{Task}
+use Rattle.rules.specs.declared.Task.the-variants.{Idle, Programming, Verifying}
+use Rattle.rules.specs.declared.Kind.{Kind}
+use Rattle.rules.specs.declared.Kind.the-variants.{Erase, Write, Verify, Sum}
+use Rattle.rules.specs.declared.Step.{Step}
+use Rattle.rules.specs.Chip.{over}
+use Rattle.rules.specs.StandIn.{State, Fed, feed, taskNow}
+use Rattle.rules.specs.Sheet.{count, stepAt, stepBlocks, stepPages}
+use Rattle.rules.specs.Player.{absorbed, emitted, newPlayer}
+
+-- what comes through of the k-th answer, k from 0
+abbrev pub Line : Type 0
+Line = ℕ → List ℕ → List ℕ
+
+-- a line that neither loses nor alters a byte
+abbrev pub clean : Line
+clean k answer = answer
+
+-- player, stand-in, list of sums and both buffers, and the reply that came through last
+pub record Joined : Type 0 where
+  pub player : Player
+  pub state : State
+  pub sums : List ℕ
+  pub frame : List ℕ
+  pub reply : List ℕ
+  pub heard : List ℕ
+
+-- all bytes answered
+unfoldable pub joined : List (List ℕ) → List ℕ
+joined [] = []
+joined (a ∷ later) = a ++ joined later
+
+-- the stand-in steps through a frame's bytes, and all that it answers goes through the line
+unfoldable pub carried : Line → Chip → ℕ → Player → List ℕ → Joined → Joined
+carried line chip k p bytes j =
+    let fed = feed chip (j .state) bytes in
+    let heard = line k (joined (fed .answers)) in
+    record {
+      player = p;
+      state = fed .state;
+      sums = j .sums;
+      frame = over bytes (j .frame);
+      reply = over heard (j .reply);
+      heard = heard;
+    }
+
+-- the reply is taken in
+unfoldable pub takenIn : Chip → List ℕ → Joined → Joined
+takenIn chip s j =
+    let a = absorbed chip s (j .player) (j .heard) (j .sums) in
+    record {
+      player = a .player;
+      state = j .state;
+      sums = a .sums;
+      frame = j .frame;
+      reply = j .reply;
+      heard = j .heard;
+    }
+
+-- a run: whether it ended, and where it stands
+pub record Ran : Type 0 where
+  pub ended : Bool
+  pub joined : Joined
+
+abbrev none : List ℕ → Bool
+none [] = true
+none (b ∷ bs) = false
+
+-- so many player calls: it ends at the one that gives no frame; k frames went before
+unfoldable pub runFrom : Line → Chip → List ℕ → ℕ → ℕ → Joined → Ran
+runFrom line chip s k zero j = record { ended = false; joined = j }
+runFrom line chip s k (suc calls) j =
+    let t = takenIn chip s j in
+    let sent = emitted chip s (t .player) in
+    let end : Ran = record { ended = true; joined = t } in
+    let later = runFrom line chip s (k + 1) calls (carried line chip k (sent .player) (sent .bytes) t) in
+    cond (none (sent .bytes)) end later
+
+-- the greatest frame count of a step, and of so many steps from step i on
+mostFor : Kind → Step → ℕ
+mostFor Erase t = stepBlocks t
+mostFor Write t = 1 + stepPages t
+mostFor Verify t = 1 + stepPages t
+mostFor Sum t = 1
+
+unfoldable pub mostFrames : Step → ℕ
+unfolding mostFor
+mostFrames t = mostFor (t .kind) t
+
+unfoldable pub mostFrom : Chip → List ℕ → ℕ → ℕ → ℕ
+mostFrom chip s i zero = 0
+mostFrom chip s i (suc left) = mostFrames (stepAt chip s i) + mostFrom chip s (i + 1) left
+
+abbrev pub mostCalls : Chip → List ℕ → ℕ
+mostCalls chip s = 1 + mostFrom chip s 0 (count s)
+
+-- THE RUN of a sheet: a new player and that stand-in, with these buffers
+abbrev pub joinedAtStart : State → List ℕ → List ℕ → List ℕ → Joined
+joinedAtStart state frame reply sums =
+    record { player = newPlayer; state = state; sums = sums; frame = frame; reply = reply; heard = [] }
+
+unfoldable pub run : Line → Chip → List ℕ → Joined → Ran
+run line chip s j = runFrom line chip s 0 (mostCalls chip s) j
+
+-- a stand-in that waits for a command: phase Command, no command begun, nothing half received
+waitsIn : Phase → Task → List ℕ → Bool
+waitsIn Mode t g = false
+waitsIn Speed t g = false
+waitsIn Ident t g = false
+waitsIn Command Idle [] = true
+waitsIn Command Idle (b ∷ g) = false
+waitsIn Command (Programming p) g = false
+waitsIn Command (Verifying p) g = false
+waitsIn Silent t g = false
+
+unfoldable pub waits : Chip → State → Bool
+unfolding waitsIn
+waits chip s = waitsIn (s .phase) (taskNow chip (s .phase) (s .task)) (s .got)

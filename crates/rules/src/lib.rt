@@ -1,0 +1,171 @@
+// The vocabulary: the types that promises speak of. What they mean stands in specs/, in document 01's order.
+
+// Our chip: how many blocks its code flash and its data flash have.
+pub struct Chip {
+    pub code: u16,
+    pub data: u16,
+}
+
+pub enum Flash {
+    Code,
+    Data,
+}
+
+// The address of a byte, as every command but those of the window names it.
+pub struct Address(pub u32);
+
+// The number of a block in its flash, as the window names it. Only the finder turns one into the other.
+pub struct Block(pub u16);
+
+// Where an address lies.
+pub enum Found {
+    In(Flash, Block),
+    Nowhere,
+}
+
+// What a pair of addresses names: the first and the last block, or no valid pair.
+pub enum Range {
+    Blocks(Flash, Block, Block),
+    Invalid,
+}
+
+// The options as stored: two flag bytes and two window words.
+pub struct Options {
+    pub sf1: u8,
+    pub sf2: u8,
+    pub sws: u16,
+    pub swe: u16,
+}
+
+pub enum Phase {
+    Mode,
+    Speed,
+    Ident,
+    Command,
+    Silent,
+}
+
+// The pages that a command still waits for: the next one, how many are left with it, and what is known of those before it.
+pub struct Pages {
+    pub flash: Flash,
+    pub page: usize,
+    pub left: usize,
+    pub status: u8,
+}
+
+// The command begun that waits for data.
+pub enum Task {
+    Idle,
+    Programming(Pages),
+    Verifying(Pages),
+}
+
+// A row of the command table: the length that a code must have, and the number of the phase that allows it.
+pub enum Known {
+    Row { len: u8, phase: u8 },
+    Unknown,
+}
+
+// The verdict on a frame: the first row of 01's status table that applies.
+pub enum Fault {
+    Well,
+    EndByte,
+    Sum,
+    Code,
+    Length,
+    Parameter,
+    Ident,
+    NotBlank,
+    Protected,
+    PageNotBlank,
+    Difference,
+}
+
+// The refusals that 01 numbers.
+pub enum Refusal {
+    D1,
+    D2,
+    D3,
+    J1,
+    J2,
+    J3,
+    J4,
+    J5,
+    J6,
+    J7,
+    J8,
+    J9,
+    J10,
+    P1,
+    P2,
+}
+
+// The answer of a power-on or a byte call: refused, or so many bytes answered.
+pub enum Call {
+    Refused(Refusal),
+    Answer(usize),
+}
+
+pub enum Verdict {
+    Accepted,
+    Refused(Refusal),
+}
+
+pub enum Kind {
+    Erase,
+    Write,
+    Verify,
+    Sum,
+}
+
+// A step of a sheet: its kind, its blocks and where its body stands in the sheet.
+pub struct Step {
+    pub kind: Kind,
+    pub flash: Flash,
+    pub first: Block,
+    pub last: Block,
+    pub body: usize,
+}
+
+// What the player is about: New has sent nothing, Ready and Page are about to send, Over is finished or stopped;
+// the others wait for the answer to a block, to a write or verify command, to a sum and to a page.
+pub enum Stage {
+    New,
+    Ready,
+    Erased,
+    Opened,
+    Summed,
+    Page,
+    Paged,
+    Over,
+}
+
+// The status of a play: a byte of 01's table, or L1.
+pub enum Status {
+    Byte(u8),
+    L1,
+}
+
+// The player between two calls: `step` counts the finished steps, `at` is the block or page in the step.
+pub struct Player {
+    pub stage: Stage,
+    pub step: usize,
+    pub at: usize,
+    pub frames: usize,
+    pub pieces: usize,
+    pub status: Status,
+}
+
+pub struct Report {
+    pub status: Status,
+    pub steps: usize,
+    pub frames: usize,
+    pub pieces: usize,
+}
+
+// The answer of a player call: refused, a frame of so many bytes, or the end.
+pub enum Next {
+    Refused(Refusal),
+    Frame(usize),
+    End,
+}

@@ -189,18 +189,17 @@ abbrev pub lastPage : Pages → Bool
 lastPage p = eqb (p .left) 1
 
 -- "A page is protected when ..": 10h; "A page not all blank is a write error": 1Ch
-unfoldable pub writeFault : Options → Memory → Pages → Fault
-writeFault o m p =
-    first
-    (check Protected (writeProtected o (p .flash) (blockOfPage (p .flash) (p .page)))
-    ∷ check PageNotBlank (not (blank (pageOf m (p .flash) (p .page))))
-    ∷ [])
+unfoldable pub pageFault : Bool → List ℕ → Fault
+pageFault guarded page = first (check Protected guarded ∷ check PageNotBlank (not (blank page)) ∷ [])
 
 -- "A page in error stays as it is"
-unfoldable pub pageWritten : Options → Memory → Pages → List ℕ → Memory
-pageWritten o m p body =
+unfoldable pub pageWritten : Bool → Memory → Pages → List ℕ → Memory
+pageWritten guarded m p body =
     let new = putPage m (p .flash) (p .page) body in
-    cond (eqb (statusByte (writeFault o m p)) 0x06) new m
+    cond (eqb (statusByte (pageFault guarded (pageOf m (p .flash) (p .page)))) 0x06) new m
+
+abbrev pub pageGuarded : Options → Pages → Bool
+pageGuarded o p = writeProtected o (p .flash) (blockOfPage (p .flash) (p .page))
 
 -- the pair is sent and the command ends, with that memory
 abbrev pub ended : ℕ → ℕ → State → Memory → Out
@@ -210,8 +209,9 @@ ended a b s m = out (rest (s .phase) Idle (s .options) m) (pair a b)
 unfoldable pub onPage : Pages → State → List ℕ → Out
 onPage p s f =
     let line = statusByte (dataFault (lastPage p) f) in
-    let st = statusByte (writeFault (s .options) (s .memory) p) in
-    let m = pageWritten (s .options) (s .memory) p (bodyOf f) in
+    let guarded = pageGuarded (s .options) p in
+    let st = statusByte (pageFault guarded (pageOf (s .memory) (p .flash) (p .page))) in
+    let m = pageWritten guarded (s .memory) p (bodyOf f) in
     let more = out (rest (s .phase) (Programming (later p st)) (s .options) m) (pair 0x06 0x06) in
     let last = ended 0x06 st s m in
     cond (eqb line 0x06 && eqb (p .status) 0x06)

@@ -219,6 +219,14 @@ range chip sad ead =
     (Blocks Code (blockAt Code sad) (blockAt Code ead))
     (cond (pairIn chip Data sad ead) (Blocks Data (blockAt Data sad) (blockAt Data ead)) Invalid)
 
+abbrev pub nowhere : Found → Bool
+nowhere (In f b) = false
+nowhere Nowhere = true
+
+abbrev pub invalid : Range → Bool
+invalid (Blocks f a b) = false
+invalid Invalid = true
+
 -- what a range comes to in blocks, pages and bytes
 abbrev pub blocksFrom : Block → Block → ℕ
 blocksFrom first last = last .0 + 1 - first .0

@@ -18,7 +18,7 @@ use Rattle.rules.specs.declared.Known.the-variants.{Row, Unknown}
 use Rattle.rules.specs.declared.Fault.{Fault}
 use Rattle.rules.specs.declared.Fault.the-variants.{Well, EndByte, Sum, Code, Length, Parameter, NotBlank, Protected}
 use Rattle.rules.specs.declared.Fault.the-variants as fault
-use Rattle.rules.specs.Chip.{Memory, byteAt, addressAt, same, identOf, identSize, blankMemory, eraseAddress, range}
+use Rattle.rules.specs.Chip.{Memory, byteAt, addressAt, same, identOf, identSize, blankMemory, eraseAddress, range, invalid, nowhere}
 use Rattle.rules.specs.Options.{BTPR, SEPR, FSPR, eraseProtected}
 use Rattle.rules.specs.Frame.{lastEnd, lenOf, endOf, sumHolds, Check, check, first}
 
@@ -73,14 +73,6 @@ sadOf f = addressAt f 3
 
 abbrev pub eadOf : List ℕ → Address
 eadOf f = addressAt f 6
-
-abbrev invalid : Range → Bool
-invalid (Blocks f a b) = false
-invalid Invalid = true
-
-abbrev nowhere : Found → Bool
-nowhere (In f b) = false
-nowhere Nowhere = true
 
 -- ---- the verdict: rows 1 to 8 of the status table ----
 

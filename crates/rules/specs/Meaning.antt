@@ -53,16 +53,15 @@ pub record Done : Type 0 where
   pub frames : ℕ
   pub sum : ℕ
 
+abbrev done : Memory → ℕ → ℕ → ℕ → ℕ → Done
+done m st pieces frames sum = record { memory = m; status = st; pieces = pieces; frames = frames; sum = sum }
+
 -- Frames: "erase one per block tried"; pieces: "blocks erased before it"
 unfoldable pub eraseDone : Tried → Done
 eraseDone w =
-    record {
-      memory = w .memory;
-      status = w .status;
-      pieces = cond (eqb (w .status) 0x06) 0 (w .done);
-      frames = cond (eqb (w .status) 0x06) (w .done) (w .done + 1);
-      sum = 0;
-    }
+    cond (eqb (w .status) 0x06)
+    (done (w .memory) 0x06 0 (w .done) 0)
+    (done (w .memory) (w .status) (w .done) (w .done + 1) 0)
 
 -- Frames: "write 1 + pages, or, if page j of p fails, 1 + the smaller of j + 1 and p"; pieces: "j − 1, but p − 2 if j = p and p is 2 or more"
 abbrev pub writePieces : ℕ → ℕ → ℕ
@@ -70,34 +69,19 @@ writePieces j p = cond (eqb j p && leb 2 p) (p - 2) (j - 1)
 
 unfoldable pub writeDone : ℕ → Tried → Done
 writeDone p w =
-    record {
-      memory = w .memory;
-      status = w .status;
-      pieces = cond (eqb (w .status) 0x06) 0 (writePieces (w .done + 1) p);
-      frames = cond (eqb (w .status) 0x06) (1 + p) (1 + min (w .done + 1 + 1) p);
-      sum = 0;
-    }
+    let j = w .done + 1 in
+    cond (eqb (w .status) 0x06)
+    (done (w .memory) 0x06 0 (1 + p) 0)
+    (done (w .memory) (w .status) (writePieces j p) (1 + min (j + 1) p) 0)
 
 -- one step, by its kind. Frames: "sum one; verify 1 + pages"
 stepDone : Kind → Options → List ℕ → Step → Memory → Done
 stepDone Erase o s t m = eraseDone (eraseFrom o t m 0 (stepBlocks t))
 stepDone Write o s t m = writeDone (stepPages t) (writeFrom o s t m 0 (stepPages t))
 stepDone Verify o s t m =
-    record {
-      memory = m;
-      status = cond (same (bytesFrom m (t .flash) (t .first) (t .last)) (bodyOf s t)) 0x06 0x0F;
-      pieces = 0;
-      frames = 1 + stepPages t;
-      sum = 0;
-    }
-stepDone Sum o s t m =
-    record {
-      memory = m;
-      status = 0x06;
-      pieces = 0;
-      frames = 1;
-      sum = checksum (bytesFrom m (t .flash) (t .first) (t .last));
-    }
+    let equal = same (bytesFrom m (t .flash) (t .first) (t .last)) (bodyOf s t) in
+    done m (cond equal 0x06 0x0F) 0 (1 + stepPages t) 0
+stepDone Sum o s t m = done m 0x06 0 1 (checksum (bytesFrom m (t .flash) (t .first) (t .last)))
 
 -- ONE STEP
 unfoldable pub stepMeaning : Options → List ℕ → Step → Memory → Done
@@ -111,27 +95,18 @@ pub record Ended : Type 0 where
   pub report : Report
   pub sums : List ℕ
 
+abbrev pub ended : Memory → Options → ℕ → ℕ → ℕ → ℕ → List ℕ → Ended
+ended m o st steps frames pieces sums =
+    let r : Report = record { status = Byte st; steps = steps; frames = frames; pieces = pieces } in
+    record { memory = m; options = o; report = r; sums = sums }
+
 -- "Steps run in order up to the first that fails": step i and those behind it, so many, after so many frames
 unfoldable pub meaningFrom : Chip → List ℕ → Options → Memory → ℕ → ℕ → List ℕ → ℕ → Ended
-meaningFrom chip s o m i frames sums zero =
-    record {
-      memory = m;
-      options = o;
-      report = record { status = Byte 0x06; steps = i; frames = frames; pieces = 0 };
-      sums = sums;
-    }
+meaningFrom chip s o m i frames sums zero = ended m o 0x06 i frames 0 sums
 meaningFrom chip s o m i frames sums (suc left) =
     let d = stepMeaning o s (stepAt chip s i) m in
     let later = meaningFrom chip s o (d .memory) (i + 1) (frames + d .frames) (set sums i (d .sum)) left in
-    let stopped : Ended =
-    record {
-      memory = d .memory;
-      options = o;
-      report =
-          record { status = Byte (d .status); steps = i; frames = frames + d .frames; pieces = d .pieces };
-      sums = sums;
-    } in
-    cond (eqb (d .status) 0x06) later stopped
+    cond (eqb (d .status) 0x06) later (ended (d .memory) o (d .status) i (frames + d .frames) (d .pieces) sums)
 
 -- THE MEANING of an accepted sheet, on options, flash and a list for sums
 unfoldable pub meaning : Chip → List ℕ → Options → Memory → List ℕ → Ended

@@ -219,32 +219,20 @@ awaits Write block page sum = page
 awaits Verify block page sum = page
 awaits Sum block page sum = sum
 
--- what a player of that stage is about stands in the step
-stands : Stage → Step → Player → Bool
+lostIn : Stage → ℕ → Step → Player → Bool
 unfolding awaits
-stands New t p = true
-stands Ready t p = awaits (t .kind) (ltb (p .at) (stepBlocks t)) true true
-stands Erased t p = awaits (t .kind) (ltb (p .at) (stepBlocks t)) false false
-stands Opened t p = awaits (t .kind) false true false
-stands Summed t p = awaits (t .kind) false false true
-stands Page t p = awaits (t .kind) false (ltb (p .at) (stepPages t)) false
-stands Paged t p = awaits (t .kind) false (ltb (p .at) (stepPages t)) false
-stands Over t p = true
-
-abbrev pub unfinished : Stage → Bool
-unfinished New = false
-unfinished Ready = true
-unfinished Erased = true
-unfinished Opened = true
-unfinished Summed = true
-unfinished Page = true
-unfinished Paged = true
-unfinished Over = false
+lostIn New n t p = false
+lostIn Ready n t p = not (ltb (p .step) n && awaits (t .kind) (ltb (p .at) (stepBlocks t)) true true)
+lostIn Erased n t p = not (ltb (p .step) n && awaits (t .kind) (ltb (p .at) (stepBlocks t)) false false)
+lostIn Opened n t p = not (ltb (p .step) n && awaits (t .kind) false true false)
+lostIn Summed n t p = not (ltb (p .step) n && awaits (t .kind) false false true)
+lostIn Page n t p = not (ltb (p .step) n && awaits (t .kind) false (ltb (p .at) (stepPages t)) false)
+lostIn Paged n t p = not (ltb (p .step) n && awaits (t .kind) false (ltb (p .at) (stepPages t)) false)
+lostIn Over n t p = false
 
 unfoldable pub lost : Chip → List ℕ → Player → Bool
-unfolding stands
-lost chip s p =
-    unfinished (p .stage) && not (ltb (p .step) (count s) && stands (p .stage) (stepAt chip s (p .step)) p)
+unfolding lostIn
+lost chip s p = lostIn (p .stage) (count s) (stepAt chip s (p .step)) p
 
 -- "P1 for a frame buffer under 260 bytes"
 abbrev pub frameRoom : ℕ
@@ -264,6 +252,9 @@ pub record Called : Type 0 where
   pub frame : List ℕ
   pub sums : List ℕ
 
+abbrev calls : Player → Next → List ℕ → List ℕ → Called
+calls p call frame sums = record { player = p; call = call; report = reportOf p; frame = frame; sums = sums }
+
 abbrev nextOf : List ℕ → Next
 nextOf [] = End
 nextOf (b ∷ bs) = Frame (length (b ∷ bs))
@@ -273,22 +264,15 @@ unfoldable pub played : Chip → List ℕ → Player → List ℕ → List ℕ �
 played chip s p r buffer sums =
     let a = absorbed chip s p r sums in
     let e = emitted chip s (a .player) in
-    record {
-      player = e .player;
-      call = nextOf (e .bytes);
-      report = reportOf (e .player);
-      frame = over (e .bytes) buffer;
-      sums = a .sums;
-    }
+    calls (e .player) (nextOf (e .bytes)) (over (e .bytes) buffer) (a .sums)
 
 -- "state and buffers then stand"
-refusedBy : Verdict → Chip → List ℕ → Player → List ℕ → List ℕ → List ℕ → Called
-refusedBy Accepted chip s p r buffer sums = played chip s p r buffer sums
-refusedBy (v.Refused n) chip s p r buffer sums =
-    record { player = p; call = Refused n; report = reportOf p; frame = buffer; sums = sums }
+callBy : Verdict → Chip → List ℕ → Player → List ℕ → List ℕ → List ℕ → Called
+callBy Accepted chip s p r buffer sums = played chip s p r buffer sums
+callBy (v.Refused n) chip s p r buffer sums = calls p (Refused n) buffer sums
 
 -- A PLAYER CALL
 unfoldable pub called : Chip → List ℕ → Player → List ℕ → List ℕ → List ℕ → Called
-unfolding refusedBy
+unfolding callBy
 called chip s p r buffer sums =
-    refusedBy (playerVerdict chip s p (length buffer) (length sums)) chip s p r buffer sums
+    callBy (playerVerdict chip s p (length buffer) (length sums)) chip s p r buffer sums

@@ -34,6 +34,10 @@ pub record Joined : Type 0 where
   pub reply : List ℕ
   pub heard : List ℕ
 
+abbrev pub joining : Player → State → List ℕ → List ℕ → List ℕ → List ℕ → Joined
+joining p s sums frame reply heard =
+    record { player = p; state = s; sums = sums; frame = frame; reply = reply; heard = heard }
+
 -- all bytes answered
 unfoldable pub joined : List (List ℕ) → List ℕ
 joined [] = []
@@ -44,27 +48,13 @@ unfoldable pub carried : Line → Chip → ℕ → Player → List ℕ → Joine
 carried line chip k p bytes j =
     let fed = feed chip (j .state) bytes in
     let heard = line k (joined (fed .answers)) in
-    record {
-      player = p;
-      state = fed .state;
-      sums = j .sums;
-      frame = over bytes (j .frame);
-      reply = over heard (j .reply);
-      heard = heard;
-    }
+    joining p (fed .state) (j .sums) (over bytes (j .frame)) (over heard (j .reply)) heard
 
 -- the reply is taken in
 unfoldable pub takenIn : Chip → List ℕ → Joined → Joined
 takenIn chip s j =
     let a = absorbed chip s (j .player) (j .heard) (j .sums) in
-    record {
-      player = a .player;
-      state = j .state;
-      sums = a .sums;
-      frame = j .frame;
-      reply = j .reply;
-      heard = j .heard;
-    }
+    joining (a .player) (j .state) (a .sums) (j .frame) (j .reply) (j .heard)
 
 -- a run: whether it ended, and where it stands
 pub record Ran : Type 0 where
@@ -105,8 +95,7 @@ mostCalls chip s = 1 + mostFrom chip s 0 (count s)
 
 -- THE RUN of a sheet: a new player and that stand-in, with these buffers
 abbrev pub joinedAtStart : State → List ℕ → List ℕ → List ℕ → Joined
-joinedAtStart state frame reply sums =
-    record { player = newPlayer; state = state; sums = sums; frame = frame; reply = reply; heard = [] }
+joinedAtStart state frame reply sums = joining newPlayer state sums frame reply []
 
 unfoldable pub run : Line → Chip → List ℕ → Joined → Ran
 run line chip s j = runFrom line chip s 0 (mostCalls chip s) j

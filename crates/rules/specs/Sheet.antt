@@ -18,7 +18,7 @@ use Rattle.rules.specs.declared.Verdict.the-variants.{Accepted, Refused}
 use Rattle.rules.specs.declared.Kind.{Kind}
 use Rattle.rules.specs.declared.Kind.the-variants.{Erase, Write, Verify, Sum}
 use Rattle.rules.specs.declared.Step.{Step}
-use Rattle.rules.specs.Chip.{byteAt, wordAt, addressAt, block, blockSize, blocksFrom, pagesFrom, pageSize, range}
+use Rattle.rules.specs.Chip.{byteAt, wordAt, addressAt, block, blockSize, blocksFrom, pagesFrom, pageSize, range, invalid}
 
 -- ---- what stands where ----
 
@@ -92,10 +92,6 @@ J4 s i = not (leb 1 (kindAt s i) && leb (kindAt s i) 4)
 
 abbrev pub J5 : List ℕ → ℕ → Bool
 J5 s i = not (eqb (zeroAt s i) 0)
-
-abbrev invalid : Range → Bool
-invalid (Blocks f a b) = false
-invalid Invalid = true
 
 abbrev pub J6 : Chip → List ℕ → ℕ → Bool
 J6 chip s i = invalid (rangeAt chip s i)

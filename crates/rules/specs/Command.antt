@@ -103,7 +103,7 @@ unfoldable pub notBlank : Memory → List ℕ → Bool
 notBlank m f = let used = not (blankMemory m) in cond (eqb (codeOf f) 0xA2) used false
 
 -- row 8: "protected block ..; Release with SEPR or BTPR 0; Window Set with FSPR 0"
-blockProtected : Options → Found → Bool
+unfoldable pub blockProtected : Options → Found → Bool
 blockProtected o (In f b) = eraseProtected o f b
 blockProtected o Nowhere = false
 

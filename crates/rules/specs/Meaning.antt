@@ -23,7 +23,7 @@ pub record Tried : Type 0 where
   pub done : ℕ
   pub status : ℕ
 
-abbrev tried : Memory → ℕ → ℕ → Tried
+abbrev pub tried : Memory → ℕ → ℕ → Tried
 tried m n st = record { memory = m; done = n; status = st }
 
 -- "Erase: each block upward, 10h at a protected one": n blocks are done, so many are left
@@ -53,7 +53,7 @@ pub record Done : Type 0 where
   pub frames : ℕ
   pub sum : ℕ
 
-abbrev done : Memory → ℕ → ℕ → ℕ → ℕ → Done
+abbrev pub done : Memory → ℕ → ℕ → ℕ → ℕ → Done
 done m st pieces frames sum = record { memory = m; status = st; pieces = pieces; frames = frames; sum = sum }
 
 -- Frames: "erase one per block tried"; pieces: "blocks erased before it"
@@ -75,7 +75,7 @@ writeDone p w =
     (done (w .memory) (w .status) (writePieces j p) (1 + min (j + 1) p) 0)
 
 -- one step, by its kind. Frames: "sum one; verify 1 + pages"
-stepDone : Kind → Options → List ℕ → Step → Memory → Done
+unfoldable pub stepDone : Kind → Options → List ℕ → Step → Memory → Done
 stepDone Erase o s t m = eraseDone (eraseFrom o t m 0 (stepBlocks t))
 stepDone Write o s t m = writeDone (stepPages t) (writeFrom o s t m 0 (stepPages t))
 stepDone Verify o s t m =

@@ -123,7 +123,7 @@ sentPage s t p r sums =
 abbrev pub begun : List ℕ → Player
 begun s = player (beginning 0 (count s)) 0 0 0 0 well
 
-absorbBy : Stage → List ℕ → Step → Player → List ℕ → List ℕ → Absorbed
+unfoldable pub absorbBy : Stage → List ℕ → Step → Player → List ℕ → List ℕ → Absorbed
 absorbBy New s t p r sums = absorbs (begun s) sums
 absorbBy Ready s t p r sums = absorbs p sums
 absorbBy Erased s t p r sums = erasedBlock s t p r sums
@@ -170,13 +170,13 @@ blockCommand t at = command (0x22 ∷ addressBytes (firstByte (t .flash) (block 
 abbrev pub pageFrame : List ℕ → Step → ℕ → List ℕ
 pageFrame s t at = frame dataStart (endDue (eqb (at + 1) (stepPages t))) (bodyPage s t at)
 
-emitReady : Kind → Step → Player → Sent
+unfoldable pub emitReady : Kind → Step → Player → Sent
 emitReady Erase t p = sends Erased p (blockCommand t (p .at))
 emitReady Write t p = sends Opened p (pairCommand 0x40 t)
 emitReady Verify t p = sends Opened p (pairCommand 0x13 t)
 emitReady Sum t p = sends Summed p (pairCommand 0xB0 t)
 
-emitBy : Stage → List ℕ → Step → Player → Sent
+unfoldable pub emitBy : Stage → List ℕ → Step → Player → Sent
 unfolding emitReady
 emitBy New s t p = silent p
 emitBy Ready s t p = emitReady (t .kind) t p
@@ -195,10 +195,10 @@ emitted chip s p = emitBy (p .stage) s (stepAt chip s (p .step)) p
 -- ---- a player call ----
 
 -- "Report: status (06h if all done), steps finished, frames sent, pieces"; of an unfinished play 06h and the counts so far
-abbrev countsOf : Player → Report
+abbrev pub countsOf : Player → Report
 countsOf p = record { status = well; steps = p .step; frames = p .frames; pieces = 0 }
 
-reportBy : Stage → Player → Report
+unfoldable pub reportBy : Stage → Player → Report
 reportBy New p = record { status = well; steps = 0; frames = 0; pieces = 0 }
 reportBy Ready p = countsOf p
 reportBy Erased p = countsOf p
@@ -213,13 +213,13 @@ unfolding reportBy
 reportOf p = reportBy (p .stage) p
 
 -- P2: "an unfinished play whose step, block or page is not in the given sheet"; a step that does not await this is not it
-awaits : Kind → Bool → Bool → Bool → Bool
+unfoldable pub awaits : Kind → Bool → Bool → Bool → Bool
 awaits Erase block page sum = block
 awaits Write block page sum = page
 awaits Verify block page sum = page
 awaits Sum block page sum = sum
 
-lostIn : Stage → ℕ → Step → Player → Bool
+unfoldable pub lostIn : Stage → ℕ → Step → Player → Bool
 unfolding awaits
 lostIn New n t p = false
 lostIn Ready n t p = not (ltb (p .step) n && awaits (t .kind) (ltb (p .at) (stepBlocks t)) true true)
@@ -252,10 +252,10 @@ pub record Called : Type 0 where
   pub frame : List ℕ
   pub sums : List ℕ
 
-abbrev calls : Player → Next → List ℕ → List ℕ → Called
+abbrev pub calls : Player → Next → List ℕ → List ℕ → Called
 calls p call frame sums = record { player = p; call = call; report = reportOf p; frame = frame; sums = sums }
 
-abbrev nextOf : List ℕ → Next
+abbrev pub nextOf : List ℕ → Next
 nextOf [] = End
 nextOf (b ∷ bs) = Frame (length (b ∷ bs))
 
@@ -267,7 +267,7 @@ played chip s p r buffer sums =
     calls (e .player) (nextOf (e .bytes)) (over (e .bytes) buffer) (a .sums)
 
 -- "state and buffers then stand"
-callBy : Verdict → Chip → List ℕ → Player → List ℕ → List ℕ → List ℕ → Called
+unfoldable pub callBy : Verdict → Chip → List ℕ → Player → List ℕ → List ℕ → List ℕ → Called
 callBy Accepted chip s p r buffer sums = played chip s p r buffer sums
 callBy (v.Refused n) chip s p r buffer sums = calls p (Refused n) buffer sums
 

@@ -61,7 +61,7 @@ pub record Ran : Type 0 where
   pub ended : Bool
   pub joined : Joined
 
-abbrev none : List ℕ → Bool
+abbrev pub none : List ℕ → Bool
 none [] = true
 none (b ∷ bs) = false
 
@@ -76,7 +76,7 @@ runFrom line chip s k (suc calls) j =
     cond (none (sent .bytes)) end later
 
 -- the greatest frame count of a step, and of so many steps from step i on
-mostFor : Kind → Step → ℕ
+unfoldable pub mostFor : Kind → Step → ℕ
 mostFor Erase t = stepBlocks t
 mostFor Write t = 1 + stepPages t
 mostFor Verify t = 1 + stepPages t
@@ -101,7 +101,7 @@ unfoldable pub run : Line → Chip → List ℕ → Joined → Ran
 run line chip s j = runFrom line chip s 0 (mostCalls chip s) j
 
 -- a stand-in that waits for a command: phase Command, no command begun, nothing half received
-waitsIn : Phase → Task → List ℕ → Bool
+unfoldable pub waitsIn : Phase → Task → List ℕ → Bool
 waitsIn Mode t g = false
 waitsIn Speed t g = false
 waitsIn Ident t g = false

@@ -115,7 +115,7 @@ pub record Rule : Type 0 where
   pub name : Refusal
   pub broken : Bool
 
-abbrev rule : Refusal → Bool → Rule
+abbrev pub rule : Refusal → Bool → Rule
 rule n b = record { name = n; broken = b }
 
 unfoldable pub firstBroken : List Rule → Verdict
@@ -162,7 +162,7 @@ verdict chip s room =
 abbrev pub kindOf : ℕ → Kind
 kindOf k = cond (eqb k 1) Erase (cond (eqb k 2) Write (cond (eqb k 3) Verify Sum))
 
-stepOf : Kind → Range → ℕ → Step
+unfoldable pub stepOf : Kind → Range → ℕ → Step
 stepOf k (Blocks f a b) body = record { kind = k; flash = f; first = a; last = b; body = body }
 stepOf k Invalid body = record { kind = k; flash = Code; first = block 0; last = block 0; body = body }
 

@@ -57,21 +57,21 @@ abbrev pub Effect : Type 0
 Effect = Chip → State → List ℕ → Out
 
 -- acknowledged, with that task begun, or with those options, or with that memory
-abbrev begun : Task → State → Out
+abbrev pub begun : Task → State → Out
 begun t s = out (rest (s .phase) t (s .options) (s .memory)) ack
 
-abbrev optioned : Options → State → Out
+abbrev pub optioned : Options → State → Out
 optioned o s = out (rest (s .phase) Idle o (s .memory)) ack
 
 -- acknowledged, and a data frame behind it
-abbrev told : List ℕ → State → Out
+abbrev pub told : List ℕ → State → Out
 told body s = out (rest (s .phase) Idle (s .options) (s .memory)) (ack ++ frame dataStart lastEnd body)
 
 unfoldable pub onReset : Effect
 onReset chip s f = begun Idle s
 
 -- Verify and Programming wait for the pages of their range
-pagesOf : Range → Pages
+unfoldable pub pagesOf : Range → Pages
 pagesOf (Blocks f a b) = record { flash = f; page = firstPage f a; left = pagesFrom f a b; status = 0x06 }
 pagesOf Invalid = record { flash = Code; page = 0; left = 0; status = 0x06 }
 
@@ -83,7 +83,7 @@ unfoldable pub onProgramming : Effect
 unfolding pagesOf
 onProgramming chip s f = begun (Programming (pagesOf (range chip (sadOf f) (eadOf f)))) s
 
-erased : Memory → Found → Memory
+unfoldable pub erased : Memory → Found → Memory
 erased m (In f b) = eraseBlock m f b
 erased m Nowhere = m
 
@@ -123,7 +123,7 @@ unfoldable pub onWindowGet : Effect
 onWindowGet chip s f =
     told (wordBytes (shownSWS (s .options)) ++ wordBytes (shownSWE chip (s .options))) s
 
-summed : Memory → Range → ℕ
+unfoldable pub summed : Memory → Range → ℕ
 summed m (Blocks f a b) = checksum (bytesFrom m f a b)
 summed m Invalid = 0
 
@@ -136,7 +136,7 @@ pub record Named : Type 0 where
   pub code : ℕ
   pub does : Effect
 
-abbrev named : ℕ → Effect → Named
+abbrev pub named : ℕ → Effect → Named
 named c e = record { code = c; does = e }
 
 unfoldable pub effects : List Named
@@ -233,7 +233,7 @@ onCompare p s f =
     cond (eqb line 0x06) (cond (lastPage p) last more) (ended line 0x06 s (s .memory))
 
 -- the command begun: only in Command, and only while its pages are there
-abbrev ahead : Chip → Pages → Bool
+abbrev pub ahead : Chip → Pages → Bool
 ahead chip p = ltb 0 (p .left) && leb (p .page + p .left) (pages chip (p .flash))
 
 abbrev pub taskIn : Chip → Task → Task
@@ -249,7 +249,7 @@ taskNow chip Command t = taskIn chip t
 taskNow chip Silent t = Idle
 
 -- A WHOLE FRAME
-onTask : Task → Effect
+unfoldable pub onTask : Task → Effect
 onTask Idle chip s f = onCommand chip s f
 onTask (Programming p) chip s f = onPage p s f
 onTask (Verifying p) chip s f = onCompare p s f
@@ -271,19 +271,19 @@ startOf (Programming p) = dataStart
 startOf (Verifying p) = dataStart
 
 -- "Bytes other than the start byte are skipped"; "LEN fixes where the end byte is looked for"
-receive : Chip → State → List ℕ → ℕ → Out
+unfoldable pub receive : Chip → State → List ℕ → ℕ → Out
 receive chip s [] b =
     cond (eqb b (startOf (taskNow chip (s .phase) (s .task)))) (holding s (b ∷ [])) (holding s [])
 receive chip s (a ∷ g) b =
     let f = a ∷ (g ++ (b ∷ [])) in
-    let done = onFrame chip s f in
+    let done = onFrame chip (rest (s .phase) (s .task) (s .options) (s .memory)) f in
     cond (whole f) done (holding s f)
 
 -- "the first byte is the mode: 3Ah or 00h goes on to Speed, anything else to Silent"
 abbrev pub afterMode : ℕ → Phase
 afterMode b = cond (eqb b 0x3A || eqb b 0x00) Speed Silent
 
-takes : Phase → Chip → State → ℕ → Out
+unfoldable pub takes : Phase → Chip → State → ℕ → Out
 unfolding receive
 takes Mode chip s b = out (rest (afterMode b) Idle (s .options) (s .memory)) []
 takes Speed chip s b = receive chip s (s .got) b

@@ -1,0 +1,58 @@
+-- `flash::erase::erase_in` meets its contract: one law for each outcome. Assumes nothing.
+use mathlib.Core.Path.{sym, _∙_}
+use lib.ListN.{length}
+use Rattle.flash.proofs.Places.{Placed, placed}
+use Rattle.flash.proofs.Writes.{erased-there, erased-missing}
+use borrow.Author.Needs.{needs}
+use Rattle.flash.proofs.erase.erase_in.Statement.{statement}
+use Rattle.flash.proofs.erase.erase_in.Tie as tie
+
+-- the place that was found
+at-place : (c : tie.After-at) → let a = c .before .before .before .before .args in
+    Placed (length (a .flash .now)) (a .size) (a .count) (a .n) (a .n) (c .at .given .0 .0) (c .at .given .0 .1 .0)
+at-place c = placed _ _ _ _ _ (sym (c .before .before .place-of .ensures) ∙ c .at .given .1)
+
+place-of-requires : tie.Need-place-of-requires
+place-of-requires c κs = search needs
+
+enum-known-at : tie.Need-enum-known-at
+enum-known-at c = search needs
+
+enum-told : tie.Need-enum-told
+enum-told c = search needs
+
+returns : tie.Need-returns
+returns c = erased-missing _ _ _ _ (sym (c .before .before .place-of .ensures) ∙ c .enum-told .given .1)
+
+sub-fill : tie.Need-sub-fill
+sub-fill c = at-place (c .before) .forward
+
+part-fill-start : tie.Need-part-fill-start
+part-fill-start c = at-place (c .before) .forward
+
+part-fill-end : tie.Need-part-fill-end
+part-fill-end c = at-place (c .before) .room
+
+fill-requires : tie.Need-fill-requires
+fill-requires c κs = search needs
+
+same-length : tie.Need-same-length
+same-length c = search needs
+
+returns-2 : tie.Need-returns-2
+returns-2 c = erased-there _ _ _ _ (at-place (c .before .before .before .before .before)) _ (c .before .before .fill .ensures)
+
+pub erase-in-spec : {M : Type 1} → statement M
+erase-in-spec =
+    tie.close
+    (tie.spec
+    place-of-requires
+    enum-known-at
+    enum-told
+    returns
+    sub-fill
+    part-fill-start
+    part-fill-end
+    fill-requires
+    same-length
+    returns-2)

@@ -1,0 +1,19 @@
+-- `flash::pages::equals_in` meets its contract: what the three callees ensure. Assumes nothing.
+use borrow.Author.Needs.{needs}
+use Rattle.flash.proofs.pages.equals_in.Statement.{statement}
+use Rattle.flash.proofs.pages.equals_in.Tie as tie
+
+part-of-requires : tie.Need-part-of-requires
+part-of-requires c κs = search needs
+
+body-of-requires : tie.Need-body-of-requires
+body-of-requires c κs = search needs
+
+same-bytes-requires : tie.Need-same-bytes-requires
+same-bytes-requires c κs = search needs
+
+returns : tie.Need-returns
+returns c = rw (c .same-bytes .ensures, c .before .before .part-of .ensures, c .before .body-of .ensures .0)
+
+pub equals-in-spec : {M : Type 1} → statement M
+equals-in-spec = tie.close (tie.spec part-of-requires body-of-requires same-bytes-requires returns)

@@ -1,0 +1,116 @@
+// A page written or left, and a page compared.
+use crate::bytes::copy;
+use crate::bytes::is_blank;
+use crate::bytes::same_bytes;
+use crate::finder::PAGE_SIZE;
+use crate::finder::Place;
+use crate::finder::pages_of;
+use crate::finder::part_of;
+use crate::finder::place_of;
+use rules::Chip;
+use rules::Flash;
+use rules::Pages;
+ghost use mathlib.Core.Path.{_≡_};
+ghost use Prim.Native.Nat.{_≤_};
+ghost use lib.ListN.{length, take, drop};
+ghost use Rattle.rules.specs.Chip.{same, pageSize, shown, pageShown};
+ghost use Rattle.flash.specs.Lent.{memory, programmed, wrote};
+ghost use Rattle.flash.specs.OneFlash.{written, pageStatus, programmedPart};
+
+// The 256 bytes of a data frame between its LEN and its SUM.
+fn body_of<'a>(frame: &'a [u8; 260]) -> &'a [u8]
+    ensures { λ r. ⌜ now r ≡ take 256 (drop 2 (now (frame .entry))) ⌝ }
+    ensures { λ r. ⌜ length (now r) ≡ 256 ⌝ }
+{
+    let whole: &[u8] = frame;
+    &whole[2..258]
+}
+
+// The write status that a page gets: a guarded page is told as such, whatever it holds.
+fn page_status(guarded: bool, page: &[u8]) -> u8
+    ensures { λ r. ⌜ r ≡ pageStatus guarded (now (page .entry)) ⌝ }
+{
+    let blank = is_blank(page);
+    if guarded {
+        return 0x10;
+    }
+    if !blank {
+        return 0x1C;
+    }
+    0x06
+}
+
+// The page itself for writing: what is lent where it is a page, else empty. Where it is a page it is the very reference, so
+// that the lender knows what it holds after it was written through.
+pub fn page_for_writing<'a>(part: &'a mut [u8]) -> &'a mut [u8]
+    ensures { λ r. ⌜ (length (now (part .entry)) ≡ pageSize → r ≡ part .entry) ⌝ }
+    ensures { λ r. ⌜ ((length (now (part .entry)) ≡ pageSize → ⊥) → length (now r) ≡ 0) ⌝ }
+{
+    if part.len() == PAGE_SIZE {
+        part
+    } else {
+        &mut part[0..0]
+    }
+}
+
+// Page `k` of one flash gets the body of a data frame, unless it is guarded or not blank; its write status.
+fn program_in(flash: &mut [u8], count: usize, k: usize, guarded: bool, frame: &[u8; 260]) -> u8
+    requires { ⌜ count ≤ 524288 ⌝ }
+    ensures { λ r. ⌜ written r (now (flash .exit)) ≡ programmedPart count k guarded (take 256 (drop 2 (now (frame .entry)))) (now (flash .entry)) ⌝ }
+{
+    let Place::Bytes(at, end) = place_of(flash.len(), PAGE_SIZE, count, k, k) else {
+        return 0x05;
+    };
+    let status = page_status(guarded, &flash[at..end]);
+    if status != 0x06 {
+        return status;
+    }
+    let body = body_of(frame);
+    let part = &mut flash[at..end];
+    let page = page_for_writing(part);
+    copy(page, body);
+    // The part is used once more: only so its loan comes back with what the page holds.
+    let _n = part.len();
+    0x06
+}
+
+// The page in hand gets the 256 bytes of a received data frame, unless it is guarded or not blank; its write status.
+pub fn program_page(
+    chip: Chip,
+    guarded: bool,
+    p: Pages,
+    code: &mut [u8],
+    data: &mut [u8],
+    frame: &[u8; 260],
+) -> u8
+    ensures { λ r. ⌜ wrote r (memory (now (code .exit)) (now («data» .exit))) ≡ programmed chip guarded (memory (now (code .entry)) (now («data» .entry))) p (take 256 (drop 2 (now (frame .entry)))) ⌝ }
+{
+    let f = p.flash;
+    let k = p.page;
+    let count = pages_of(chip, f);
+    match f {
+        Flash::Code => program_in(code, count, k, guarded, frame),
+        Flash::Data => program_in(data, count, k, guarded, frame),
+    }
+}
+
+// Page `k` of one flash holds the body of a data frame.
+fn equals_in(flash: &[u8], count: usize, k: usize, frame: &[u8; 260]) -> bool
+    requires { ⌜ count ≤ 524288 ⌝ }
+    ensures { λ r. ⌜ r ≡ same (shown pageSize count k (now (flash .entry))) (take 256 (drop 2 (now (frame .entry)))) ⌝ }
+{
+    same_bytes(part_of(flash, PAGE_SIZE, count, k), body_of(frame))
+}
+
+// The page in hand holds the 256 bytes of a received data frame.
+pub fn page_equals(chip: Chip, p: Pages, code: &[u8], data: &[u8], frame: &[u8; 260]) -> bool
+    ensures { λ r. ⌜ r ≡ same (pageShown chip (memory (now (code .entry)) (now («data» .entry))) (p .flash) (p .page)) (take 256 (drop 2 (now (frame .entry)))) ⌝ }
+{
+    let f = p.flash;
+    let k = p.page;
+    let count = pages_of(chip, f);
+    match f {
+        Flash::Code => equals_in(code, count, k, frame),
+        Flash::Data => equals_in(data, count, k, frame),
+    }
+}

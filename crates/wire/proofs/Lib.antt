@@ -1,0 +1,5 @@
+pub mod Rows
+pub mod Sum
+pub mod Frames
+pub mod Buffers
+pub mod Checks

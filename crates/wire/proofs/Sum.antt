@@ -1,0 +1,42 @@
+-- The sum of bytes, and the SUM that brings LEN and body to 0 modulo 256. Assumes nothing.
+use mathlib.Core.Path.{_≡_, refl, sym}
+use mathlib.Core.Bool.{Bool, true, false}
+use Prim.Native.Nat.{ℕ, zero, suc, _+_, _%_, _<_, _≤_}
+use mathlib.Core.List.{List, [], _∷_}
+use native.Mathlib.Nat.{not-suc-le-zero, le-of-suc-le-suc}
+use native.Mathlib.Numerals.{add-one}
+use native.Mathlib.Omega.{arith}
+use lib.Dec.{eqb}
+use lib.ListN.{length, take, drop, length-drop}
+use lib.Seq.{drop-cons, getD-drop}
+use borrow.Author.Tests.{eq-eqb, ne-eqb, eqb-true, eqb-false}
+use Rattle.rules.specs.Chip.{byteAt, total}
+use Rattle.rules.proofs.Bytes.{total-suc}
+use Rattle.rules.specs.Frame.{lenByte, sumByte}
+
+-- LEN, a body of n bytes and SUM, in a frame
+pub total-frame : (f : List ℕ) (n : ℕ)
+    → n + 3 ≤ length f
+    → total (take (n + 2) (drop 1 f)) ≡ byteAt f 1 + total (take n (drop 2 f)) + byteAt f (n + 2)
+unfolding total
+total-frame f n h =
+    let l : 1 < length f = omega arith in
+    let d : n < length (drop 2 f) = rw length-drop (omega arith) in
+    let k : n + 2 ≡ suc (suc n) = omega arith in
+    let j : n + 2 ≡ 2 + n = omega arith in
+    let t : total (take (suc n) (drop 2 f)) ≡ total (take n (drop 2 f)) + byteAt f (2 + n) = rw (← getD-drop 2 f n 0) (total-suc (drop 2 f) n d) in
+    let e : take (n + 2) (drop 1 f) ≡ byteAt f 1 ∷ take (suc n) (drop 2 f) = rw (k, drop-cons f 1 0) in
+    rw (e, j) (omega (arith, t))
+
+-- what comes to 0 with LEN and body is the SUM
+pub sum-byte : (body : List ℕ) (r : ℕ) → (lenByte body + total body + r) % 256 ≡ 0 → r < 256 → r ≡ sumByte body
+unfolding sumByte
+sum-byte body r e h = omega arith
+
+-- a byte is that one precisely when it comes to 0 too
+pub sum-same : (s r t : ℕ) → (s + r) % 256 ≡ 0 → r < 256 → t < 256 → eqb r t ≡ eqb ((s + t) % 256) 0
+sum-same s r t e hr ht = go (eqb r t) refl
+  where
+    go : (b : Bool) → eqb r t ≡ b → b ≡ eqb ((s + t) % 256) 0
+    go true q = let z = eqb-true r t q in sym (eq-eqb ((s + t) % 256) 0 (omega arith))
+    go false q = let z = eqb-false r t q in sym (ne-eqb ((s + t) % 256) 0 (λ x. z (omega arith)))

@@ -1,0 +1,148 @@
+// Phases and the command begun.
+use rules::Block;
+use rules::Chip;
+use rules::Flash;
+use rules::Options;
+use rules::Pages;
+use rules::Phase;
+use rules::Range;
+use rules::Task;
+ghost use mathlib.Core.Path.{_≡_};
+ghost use Prim.Native.Nat.{_<_, _≤_};
+ghost use Rattle.rules.specs.Chip.{blocksFrom};
+ghost use Rattle.rules.specs.StandIn.{ahead, taskIn, taskNow, startOf, later, pagesOf, afterMode, afterSpeed};
+
+// The pages that a command still waits for are all in the flash.
+pub fn ahead(chip: Chip, p: Pages) -> bool
+    ensures { λ r. ⌜ r ≡ ahead chip p ⌝ }
+{
+    let f = p.flash;
+    let n = flash::finder::pages_of(chip, f);
+    if p.left == 0 {
+        return false;
+    }
+    if n < p.left {
+        return false;
+    }
+    // the last page from which so many are in the flash
+    let last = n - p.left;
+    if last < p.page {
+        return false;
+    }
+    true
+}
+
+fn task_in(chip: Chip, task: Task) -> Task
+    ensures { λ r. ⌜ r ≡ taskIn chip task ⌝ }
+{
+    match task {
+        Task::Idle => Task::Idle,
+        Task::Programming(p) => {
+            if ahead(chip, p) {
+                return Task::Programming(p);
+            }
+            Task::Idle
+        }
+        Task::Verifying(p) => {
+            if ahead(chip, p) {
+                return Task::Verifying(p);
+            }
+            Task::Idle
+        }
+    }
+}
+
+// The command begun, which there is only in phase Command.
+pub fn task_now(chip: Chip, phase: Phase, task: Task) -> Task
+    ensures { λ r. ⌜ r ≡ taskNow chip phase task ⌝ }
+{
+    match phase {
+        Phase::Mode => Task::Idle,
+        Phase::Speed => Task::Idle,
+        Phase::Ident => Task::Idle,
+        Phase::Command => task_in(chip, task),
+        Phase::Silent => Task::Idle,
+    }
+}
+
+// The start byte awaited.
+pub fn start_of(task: Task) -> u8
+    ensures { λ r. ⌜ r ≡ startOf task ⌝ }
+{
+    match task {
+        Task::Idle => 0x01,
+        Task::Programming(_) => 0x02,
+        Task::Verifying(_) => 0x02,
+    }
+}
+
+// How many blocks there are from the first to the last of a range.
+fn blocks_from(first: Block, last: Block) -> usize
+    ensures { λ r. ⌜ (r ≡ blocksFrom first last) × (r ≤ 65536) ⌝ }
+{
+    let begin = first.0 as usize;
+    let end = last.0 as usize + 1;
+    if end < begin {
+        return 0;
+    }
+    end - begin
+}
+
+// The pages of a range, none of them come yet.
+pub fn pages_of(range: Range) -> Pages
+    ensures { λ r. ⌜ r ≡ pagesOf range ⌝ }
+{
+    match range {
+        Range::Blocks(f, a, b) => {
+            let k = flash::finder::pages_per_block(f);
+            Pages {
+                flash: f,
+                page: a.0 as usize * k,
+                left: blocks_from(a, b) * k,
+                status: 0x06,
+            }
+        }
+        Range::Invalid => Pages {
+            flash: Flash::Code,
+            page: 0,
+            left: 0,
+            status: 0x06,
+        },
+    }
+}
+
+// The pages after the one in hand, with what is known of it.
+pub fn later(p: Pages, status: u8) -> Pages
+    requires { ⌜ (p .page < 524288) × (0 < p .left) ⌝ }
+    ensures { λ r. ⌜ r ≡ later p status ⌝ }
+{
+    let f = p.flash;
+    Pages {
+        flash: f,
+        page: p.page + 1,
+        left: p.left - 1,
+        status: status,
+    }
+}
+
+// The phase after the mode byte, and after the speed is set.
+pub fn after_mode(byte: u8) -> Phase
+    ensures { λ r. ⌜ r ≡ afterMode byte ⌝ }
+{
+    if byte == 0x3A {
+        return Phase::Speed;
+    }
+    if byte == 0x00 {
+        return Phase::Speed;
+    }
+    Phase::Silent
+}
+
+pub fn after_speed(o: Options) -> Phase
+    ensures { λ r. ⌜ r ≡ afterSpeed o ⌝ }
+{
+    if options::iden(o) == 0 {
+        return Phase::Ident;
+    }
+    Phase::Command
+}

@@ -1,0 +1,18 @@
+-- `powered_phase` meets its contract. Assumes nothing.
+use mathlib.Core.Path.{_≡_, sym, _∙_}
+use borrow.Author.Tests.{eq-eqb, ne-eqb}
+use borrow.Author.Needs.{needs}
+use Rattle.standin.proofs.call.powered_phase.Statement.{statement}
+use Rattle.standin.proofs.call.powered_phase.Tie as tie
+
+ifpr-requires : tie.Need-ifpr-requires
+ifpr-requires c κs = search needs
+
+returns : tie.Need-returns
+returns c = rw (eq-eqb _ 0 (sym (c .before .ifpr .ensures) ∙ c .if1 .taken))
+
+returns-2 : tie.Need-returns-2
+returns-2 c = rw (ne-eqb _ 0 (λ e. c .if1 .left (c .before .ifpr .ensures ∙ e)))
+
+pub powered-phase-spec : {M : Type 1} → statement M
+powered-phase-spec = tie.close (tie.spec ifpr-requires returns returns-2)

@@ -1,0 +1,50 @@
+-- `all_bytes` meets its contract. Assumes nothing.
+use mathlib.Core.Path.{_≡_, ap, _∙_}
+use mathlib.Core.List.{List, _∷_, _++_, append-nil}
+use Prim.Native.Nat.{ℕ}
+use native.Mathlib.Omega.{arith}
+use Rattle.rules.specs.Frame.{frame}
+use Rattle.standin.specs.Opening.{speedBytes}
+use Rattle.standin.proofs.Opens.{filled}
+use borrow.Author.Needs.{needs}
+use Rattle.standin.proofs.opening.all_bytes.Statement.{statement}
+use Rattle.standin.proofs.opening.all_bytes.Tie as tie
+
+ident-body-requires : tie.Need-ident-body-requires
+ident-body-requires c κs = search needs
+
+sub-put-frame : tie.Need-sub-put-frame
+sub-put-frame c = search needs
+
+part-bytes-start : tie.Need-part-bytes-start
+part-bytes-start c = search needs
+
+part-bytes-end : tie.Need-part-bytes-end
+part-bytes-end c = search needs
+
+slice-aggregate-put-frame : tie.Need-slice-aggregate-put-frame
+slice-aggregate-put-frame c = search needs
+
+put-frame-requires : tie.Need-put-frame-requires
+put-frame-requires c κs = search needs
+
+returns : tie.Need-returns
+returns c =
+    let b = c .before .before .before .before .ident-body in
+    ap
+    (λ (x : List ℕ). speedBytes ++ x)
+    (append-nil (c .before .put-frame .last .0)
+    ∙ filled 0x01 0x03 _ _ _ _ (c .before .put-frame .ensures) (omega arith) (omega arith) (omega arith)
+    ∙ ap (frame 0x01 0x03) (b .ensures))
+
+pub all-bytes-spec : {M : Type 1} → statement M
+all-bytes-spec =
+    tie.close
+    (tie.spec
+    ident-body-requires
+    sub-put-frame
+    part-bytes-start
+    part-bytes-end
+    slice-aggregate-put-frame
+    put-frame-requires
+    returns)

@@ -1,0 +1,6 @@
+// The stand-in: one received byte a call, power-on, and feeding many bytes.
+pub mod call;
+pub mod engine;
+pub mod feeding;
+pub mod frames;
+pub mod opening;

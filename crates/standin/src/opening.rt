@@ -1,0 +1,79 @@
+// The opening: a chip that was powered on is brought to phase Command.
+use super::feeding;
+use device::Core;
+use rules::Chip;
+ghost use mathlib.Core.Path.{_≡_};
+ghost use mathlib.Core.List.{_∷_, _++_};
+ghost use lib.ListN.{length};
+ghost use Rattle.rules.specs.Frame.{frame};
+ghost use Rattle.flash.specs.Lent.{memory};
+ghost use Rattle.standin.specs.View.{view};
+ghost use Rattle.standin.specs.Feeding.{Feeding, feeding, fedInto};
+ghost use Rattle.standin.specs.Opening.{speedBytes, openingBytes};
+
+// 9Ch and the ID: the body of its frame.
+fn ident_body(id: &[u8; 10]) -> [u8; 11]
+    ensures { λ r. ⌜ r ≡ 0x9C ∷ now (id .entry) ⌝ }
+{
+    let mut body = [0x9Cu8; 11];
+    let sent: &[u8] = id;
+    flash::bytes::copy(&mut body[1..11], sent);
+    body
+}
+
+// Mode byte, 9Ah and 9Ch.
+fn all_bytes(id: &[u8; 10]) -> [u8; 23]
+    ensures { λ r. ⌜ r ≡ speedBytes ++ frame 0x01 0x03 (0x9C ∷ now (id .entry)) ⌝ }
+{
+    let body = ident_body(id);
+    let mut bytes = [
+        0x3Au8,
+        0x01,
+        0x03,
+        0x9A,
+        0x00,
+        0x21,
+        0x42,
+        0x03,
+        0,
+        0,
+        0,
+        0,
+        0,
+        0,
+        0,
+        0,
+        0,
+        0,
+        0,
+        0,
+        0,
+        0,
+        0,
+    ];
+    wire::build::put_frame(&mut bytes[8..23], 0x01, 0x03, &body);
+    bytes
+}
+
+// The bytes are fed: mode 3Ah, 9Ah with BRT 0 and VDD 21h, and 9Ch with that ID where the chip asks for one.
+pub fn open(
+    chip: Chip,
+    c: Core,
+    id: &[u8; 10],
+    frame: &mut [u8; 260],
+    code: &mut [u8],
+    data: &mut [u8],
+    answers: &mut [u8],
+) -> feeding::Fed
+    requires { ⌜ length (now frame) ≡ 260 ⌝ }
+    ensures { λ _. ⌜ length (now (frame .exit)) ≡ 260 ⌝ }
+    ensures { λ r. ⌜ feeding (view (r .core) (now (frame .exit)) (memory (now (code .exit)) (now («data» .exit)))) (r .call) (r .taken) (now (answers .exit)) ≡ fedInto chip (view c (now (frame .entry)) (memory (now (code .entry)) (now («data» .entry)))) (now (answers .entry)) (openingBytes (c .options) (now (id .entry))) ⌝ }
+{
+    let bytes = all_bytes(id);
+    let all: &[u8] = &bytes;
+    let o = c.options;
+    if options::iden(o) == 0 {
+        return feeding::feed(chip, c, all, frame, code, data, answers);
+    }
+    feeding::feed(chip, c, &all[0..8], frame, code, data, answers)
+}

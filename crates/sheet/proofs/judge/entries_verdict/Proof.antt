@@ -1,0 +1,76 @@
+-- `sheet::judge::entries_verdict` meets its contract: the entries that are left judge the sheet. Assumes nothing.
+use mathlib.Core.Path.{_≡_, sym, ap, _∙_}
+use Prim.Native.Nat.{_+_, _-_, _≤_}
+use native.Mathlib.Omega.{arith}
+use borrow.Author.Needs.{needs}
+use Rattle.rules.specs.Sheet.{entriesVerdict}
+use Rattle.sheet.proofs.Entries.{none-left, one-refused, one-accepted}
+use Rattle.sheet.proofs.judge.entries_verdict.Statement.{statement}
+use Rattle.sheet.proofs.judge.entries_verdict.Tie as tie
+
+abbrev Inv-loop : tie.InvT-loop
+Inv-loop chip sheet n i₀ i = (i ≤ n) × (entriesVerdict chip sheet 0 n ≡ entriesVerdict chip sheet i (n - i))
+
+abbrev μ-loop : tie.MeasureT-loop
+μ-loop chip sheet n i₀ i = n - i
+
+loop-holds : tie.Need-loop-holds Inv-loop μ-loop
+loop-holds c =
+    let a = c .before .args in
+    (omega arith, ap (λ left. entriesVerdict (a .chip) (a .sheet .now) 0 left) (omega arith))
+
+entry-verdict-requires : tie.Need-entry-verdict-requires Inv-loop μ-loop
+entry-verdict-requires c κs = search needs
+
+enum-known-refusal : tie.Need-enum-known-refusal Inv-loop μ-loop
+enum-known-refusal c = search needs
+
+returns : tie.Need-returns Inv-loop μ-loop
+returns c =
+    let a = c .before .before .before .before .before .before .before .args in
+    let l = c .before .before .before .before .before .loop in
+    let v = c .before .before .before .entry-verdict in
+    sym
+    (l .inv .1
+    ∙ one-refused (a .chip) (a .sheet .now) (l .i) (a .n - l .i) (a .n - (l .i + 1)) (omega arith) _ (sym (v .ensures) ∙ c .before .refusal .given .1))
+
+enum-told : tie.Need-enum-told Inv-loop μ-loop
+enum-told c = search needs
+
+add-i : tie.Need-add-i Inv-loop μ-loop
+add-i c = omega arith
+
+loop-less : tie.Need-loop-less Inv-loop μ-loop
+loop-less c = omega arith
+
+loop-again : tie.Need-loop-again Inv-loop μ-loop
+loop-again c =
+    let a = c .before .before .before .before .before .before .args in
+    let l = c .before .before .before .before .loop in
+    let v = c .before .before .entry-verdict in (
+      omega arith,
+      l .inv .1
+          ∙ one-accepted (a .chip) (a .sheet .now) (l .i) (a .n - l .i) (a .n - (l .i + 1)) (omega arith) (sym (v .ensures) ∙ c .enum-told .given .1),
+    )
+
+returns-2 : tie.Need-returns-2 Inv-loop μ-loop
+returns-2 c =
+    let a = c .before .before .before .args in
+    let l = c .before .loop in
+    sym (l .inv .1 ∙ none-left (a .chip) (a .sheet .now) (l .i) (a .n - l .i) (omega arith))
+
+pub entries-verdict-spec : {M : Type 1} → statement M
+entries-verdict-spec =
+    tie.close
+    (tie.spec
+    Inv-loop
+    μ-loop
+    loop-holds
+    entry-verdict-requires
+    enum-known-refusal
+    returns
+    enum-told
+    add-i
+    loop-less
+    loop-again
+    returns-2)

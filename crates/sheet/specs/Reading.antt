@@ -1,0 +1,33 @@
+-- An entry of a sheet, and step i of a sheet for a reader that has not judged it. Assumes nothing.
+use Prim.Native.Nat.{ℕ, _+_, _-_}
+use mathlib.Core.Bool.{cond, _||_}
+use mathlib.Core.List.{List}
+use lib.Dec.{ltb, eqb}
+use Rattle.rules.specs.declared.Address.{Address}
+use Rattle.rules.specs.declared.Chip.{Chip}
+use Rattle.rules.specs.declared.Verdict.{Verdict}
+use Rattle.rules.specs.declared.Verdict.the-variants.{Accepted, Refused}
+use Rattle.rules.specs.Sheet.{count, kindAt, sadAt, eadAt, zeroAt, offsetAt, stepAt, verdict}
+use Rattle.sheet.specs.declared.Reading.{Reading}
+use Rattle.sheet.specs.declared.Reading.the-variants.{Is, NoStep}
+use Rattle.sheet.specs.declared.read.Entry.{Entry}
+
+-- the fields of entry i
+abbrev pub entryIn : List ℕ → ℕ → Entry
+entryIn s i =
+    record { kind = kindAt s i; sad = sadAt s i; ead = eadAt s i; zero = zeroAt s i; offset = offsetAt s i }
+
+-- `bodyLength` and `bodyEnd`, of the fields
+unfoldable pub lengthOf : ℕ → Address → Address → ℕ
+lengthOf kind sad ead = cond (eqb kind 2 || eqb kind 3) (ead .0 - sad .0 + 1) 0
+
+abbrev pub endOf : Entry → ℕ
+endOf e = e .offset + lengthOf (e .kind) (e .sad) (e .ead)
+
+abbrev reading : Verdict → Reading → Reading
+reading Accepted r = r
+reading (Refused n) r = NoStep
+
+-- the step of an accepted sheet (the list of sums has the room that the sheet asks for), or none
+unfoldable pub readingAt : Chip → List ℕ → ℕ → Reading
+readingAt chip s i = reading (verdict chip s (count s)) (cond (ltb i (count s)) (Is (stepAt chip s i)) NoStep)

@@ -1,0 +1,231 @@
+// Bytes, fields and steps: what stands in a sheet, for any bytes and any number of an entry.
+use crate::Reading;
+use crate::judge::verdict;
+use flash::finder;
+use rules::Address;
+use rules::Block;
+use rules::Chip;
+use rules::Flash;
+use rules::Kind;
+use rules::Range;
+use rules::Step;
+use rules::Verdict;
+ghost use mathlib.Core.Path.{_≡_};
+ghost use Prim.Native.Nat.{_+_, _*_, _<_, _≤_};
+ghost use lib.ListN.{drop};
+ghost use Rattle.rules.specs.Chip.{byteAt, wordAt, addressAt};
+ghost use Rattle.rules.specs.Sheet.{count, tableEnd, entryAt, offsetDue, kindOf, stepOf, stepAt, stepBlocks, stepPages};
+ghost use Rattle.sheet.specs.Reading.{lengthOf, endOf, entryIn, readingAt};
+
+// The two bytes of the count, and the twelve of an entry.
+const HEAD_SIZE: usize = 2;
+
+const ENTRY_SIZE: usize = 12;
+
+// ---- bytes, low byte first ----
+
+// The byte at i; past the end of a sheet every byte reads as 0, so that no field has to be there.
+fn byte_at(s: &[u8], i: usize) -> u8
+    ensures { λ r. ⌜ r ≡ byteAt (now (s .entry)) i ⌝ }
+{
+    if i < s.len() {
+        return s[i];
+    }
+    0
+}
+
+// A word and an address, among the bytes of the head or of one entry.
+fn word_at(s: &[u8], i: usize) -> u32
+    requires { ⌜ i < 12 ⌝ }
+    ensures { λ r. ⌜ (r ≡ wordAt (now (s .entry)) i) × (r < 65536) ⌝ }
+{
+    byte_at(s, i) as u32 + 256 * byte_at(s, i + 1) as u32
+}
+
+fn address_at(s: &[u8], i: usize) -> Address
+    requires { ⌜ i < 12 ⌝ }
+    ensures { λ r. ⌜ r ≡ addressAt (now (s .entry)) i ⌝ }
+{
+    Address(word_at(s, i) + 65536 * byte_at(s, i + 2) as u32)
+}
+
+// How many steps the sheet says it has.
+pub fn count(sheet: &[u8]) -> usize
+    ensures { λ r. ⌜ (r ≡ count (now (sheet .entry))) × (r < 65536) ⌝ }
+{
+    word_at(sheet, 0) as usize
+}
+
+// Where the table ends and the bodies begin.
+pub(crate) fn table_end(sheet: &[u8]) -> usize
+    ensures { λ r. ⌜ r ≡ tableEnd (now (sheet .entry)) ⌝ }
+{
+    HEAD_SIZE + ENTRY_SIZE * count(sheet)
+}
+
+// ---- entries ----
+
+// An entry as it stands in the table.
+pub(crate) struct Entry {
+    pub(crate) kind: u8,
+    pub(crate) sad: Address,
+    pub(crate) ead: Address,
+    pub(crate) zero: u8,
+    pub(crate) offset: u32,
+}
+
+// The sheet from entry i on, empty where it ends before that. Entries are counted before they are multiplied: i can be any number.
+fn from_entry<'a>(sheet: &'a [u8], i: usize) -> &'a [u8]
+    ensures { λ r. ⌜ now r ≡ drop (entryAt i) (now (sheet .entry)) ⌝ }
+{
+    if sheet.len() < HEAD_SIZE {
+        return &sheet[0..0];
+    }
+    let table = &sheet[HEAD_SIZE..];
+    if table.len() / ENTRY_SIZE < i {
+        return &sheet[0..0];
+    }
+    let at = ENTRY_SIZE * i;
+    &table[at..]
+}
+
+// A body offset: four bytes.
+fn offset_at(s: &[u8], i: usize) -> u32
+    requires { ⌜ i < 10 ⌝ }
+    ensures { λ r. ⌜ r ≡ wordAt (now (s .entry)) i + 65536 * wordAt (now (s .entry)) (i + 2) ⌝ }
+{
+    let low = word_at(s, i);
+    let high = word_at(s, i + 2);
+    low + 65536 * high
+}
+
+pub(crate) fn entry_at(sheet: &[u8], i: usize) -> Entry
+    ensures { λ r. ⌜ r ≡ entryIn (now (sheet .entry)) i ⌝ }
+{
+    let e = from_entry(sheet, i);
+    Entry {
+        kind: byte_at(e, 0),
+        sad: address_at(e, 1),
+        ead: address_at(e, 4),
+        zero: byte_at(e, 7),
+        offset: offset_at(e, 8),
+    }
+}
+
+// ---- bodies ----
+
+// The length of a body: write and verify have one, and a pair that is turned round counts as one byte.
+fn body_length(kind: u8, sad: Address, ead: Address) -> usize
+    ensures { λ r. ⌜ (r ≡ lengthOf kind sad ead) × (r ≤ 4294967296) ⌝ }
+{
+    if kind < 2 {
+        return 0;
+    }
+    if 3 < kind {
+        return 0;
+    }
+    if ead.0 < sad.0 {
+        return 1;
+    }
+    let span = ead.0 - sad.0;
+    span as usize + 1
+}
+
+// Where the body of an entry ends.
+pub(crate) fn body_end(e: Entry) -> usize
+    ensures { λ r. ⌜ r ≡ endOf e ⌝ }
+{
+    e.offset as usize + body_length(e.kind, e.sad, e.ead)
+}
+
+// The offset that entry i must say; that of the entry after the last is the length of the sheet.
+pub(crate) fn offset_due(sheet: &[u8], i: usize) -> usize
+    ensures { λ r. ⌜ r ≡ offsetDue (now (sheet .entry)) i ⌝ }
+{
+    if i == 0 {
+        return table_end(sheet);
+    }
+    let before = entry_at(sheet, i - 1);
+    body_end(before)
+}
+
+// ---- steps ----
+
+fn kind_of(k: u8) -> Kind
+    ensures { λ r. ⌜ r ≡ kindOf k ⌝ }
+{
+    if k == 1 {
+        return Kind::Erase;
+    }
+    if k == 2 {
+        return Kind::Write;
+    }
+    if k == 3 {
+        return Kind::Verify;
+    }
+    Kind::Sum
+}
+
+fn step_of(kind: Kind, range: Range, body: usize) -> Step
+    ensures { λ r. ⌜ r ≡ stepOf kind range body ⌝ }
+{
+    match range {
+        Range::Blocks(flash, first, last) => Step {
+            kind,
+            flash,
+            first,
+            last,
+            body,
+        },
+        Range::Invalid => Step {
+            kind,
+            flash: Flash::Code,
+            first: Block(0),
+            last: Block(0),
+            body,
+        },
+    }
+}
+
+// Step i as its entry says it; the caller has judged the sheet, or takes what stands there.
+pub fn step_at(chip: Chip, sheet: &[u8], i: usize) -> Step
+    ensures { λ r. ⌜ r ≡ stepAt chip (now (sheet .entry)) i ⌝ }
+{
+    let e = entry_at(sheet, i);
+    let range = finder::range(chip, e.sad, e.ead);
+    step_of(kind_of(e.kind), range, e.offset as usize)
+}
+
+// Step i of an accepted sheet.
+pub fn read_step(chip: Chip, sheet: &[u8], i: usize) -> Reading
+    ensures { λ r. ⌜ r ≡ readingAt chip (now (sheet .entry)) i ⌝ }
+{
+    let n = count(sheet);
+    if let Verdict::Refused(_) = verdict(chip, sheet, n) {
+        return Reading::NoStep;
+    }
+    if n <= i {
+        return Reading::NoStep;
+    }
+    Reading::Is(step_at(chip, sheet, i))
+}
+
+// How many blocks, and how many pages, a step has.
+pub fn blocks_of(t: Step) -> usize
+    ensures { λ r. ⌜ (r ≡ stepBlocks t) × (r ≤ 65536) ⌝ }
+{
+    let first = t.first;
+    let last = t.last;
+    if last.0 < first.0 {
+        return 0;
+    }
+    let after = last.0 as usize + 1;
+    after - first.0 as usize
+}
+
+pub fn pages_of(t: Step) -> usize
+    ensures { λ r. ⌜ (r ≡ stepPages t) × (r ≤ 524288) ⌝ }
+{
+    let flash = t.flash;
+    blocks_of(t) * finder::pages_per_block(flash)
+}

@@ -1,0 +1,108 @@
+//! The `answers` program: the stand-in by itself, driven by script lines.
+
+use crate::chip::Area;
+use crate::joined;
+use crate::lines::{
+    LineRunner, SheetInHand, byte_line, flash_lines, hex_bytes, hex_number, some_hex_bytes,
+};
+use crate::options::Options;
+use crate::player::Refusal;
+use crate::sheet::{MOST_STEPS, Sheet};
+use crate::standin::StandIn;
+
+pub struct Answers {
+    chip: StandIn,
+    sheet: SheetInHand,
+}
+
+impl Answers {
+    pub fn new() -> Answers {
+        Answers { chip: StandIn::fresh(), sheet: SheetInHand::default() }
+    }
+
+    pub fn chip(&self) -> &StandIn {
+        &self.chip
+    }
+
+    fn set_options(&mut self, words: &[&[u8]]) -> Option<()> {
+        let [sf1, sf2, sws, swe] = words else {
+            return None;
+        };
+        let options = Options {
+            sf1: hex_number(sf1, 2)? as u8,
+            sf2: hex_number(sf2, 2)? as u8,
+            sws: hex_number(sws, 4)? as u16,
+            swe: hex_number(swe, 4)? as u16,
+        };
+        self.chip.options = options;
+        self.chip.power_off();
+        Some(())
+    }
+
+    fn store(&mut self, area: Area, words: &[&[u8]]) -> Option<()> {
+        let (address, bytes) = words.split_first()?;
+        let address = hex_number(address, 5)?;
+        let bytes = some_hex_bytes(bytes)?;
+        self.chip.flash.store(area, address, &bytes)?;
+        self.chip.power_off();
+        Some(())
+    }
+
+    fn show(&self) -> String {
+        let Options { sf1, sf2, sws, swe } = self.chip.options;
+        let mut text = format!("phase {}\n", self.chip.phase().name());
+        text.push_str(&format!("options {sf1:02X} {sf2:02X} {sws:04X} {swe:04X}\n"));
+        for area in Area::BOTH {
+            text.push_str(&flash_lines(area, self.chip.flash.area(area)));
+        }
+        text
+    }
+
+    /// The sheet's verdict comes first, then whether the chip is free.
+    fn play(&mut self) -> String {
+        let sheet = self.sheet.bytes();
+        if let Err(refusal) = Sheet::read(sheet) {
+            return format!("refused {}\n", Refusal::from(refusal));
+        }
+        if !self.chip.waits_for_command() {
+            return String::from("refused busy\n");
+        }
+        match joined::play(sheet, &mut self.chip, &mut [0; MOST_STEPS]) {
+            Ok(played) => played.to_string(),
+            Err(refusal) => format!("refused {refusal}\n"),
+        }
+    }
+}
+
+impl LineRunner for Answers {
+    fn run(&mut self, words: &[&[u8]], out: &mut String) -> Option<()> {
+        let (lead, rest) = words.split_first()?;
+        if *lead == b"sheet" {
+            self.sheet.add(&some_hex_bytes(rest)?);
+            return Some(());
+        }
+        match (*lead, rest) {
+            (b"fresh", []) => self.chip = StandIn::fresh(),
+            (b"options", _) => self.set_options(rest)?,
+            (b"code", _) => self.store(Area::Code, rest)?,
+            (b"data", _) => self.store(Area::Data, rest)?,
+            (b"!", []) => {
+                self.chip.power_on();
+                out.push_str("!\n");
+            }
+            (b">", [_, ..]) => {
+                let bytes = hex_bytes(rest)?;
+                out.push_str(&byte_line(">", &bytes));
+                let answer = self.chip.receive_all(&bytes);
+                if !answer.is_empty() {
+                    out.push_str(&byte_line("<", &answer));
+                }
+            }
+            (b"?", []) => out.push_str(&self.show()),
+            (b"play", []) => out.push_str(&self.play()),
+            _ => return None,
+        }
+        self.sheet.close();
+        Some(())
+    }
+}

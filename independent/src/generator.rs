@@ -1,0 +1,72 @@
+//! Seeded trial material. The same seed gives the same text on every machine.
+
+pub mod material;
+mod plays;
+pub mod random;
+mod scripts;
+mod sheets;
+
+use crate::lines::LineRunner;
+
+#[derive(Clone, Copy, Debug, PartialEq, Eq)]
+pub enum Subject {
+    /// Scripts for `answers`: frames to the chip.
+    Scripts,
+    /// Plays for `frames`: sheets and replies.
+    Plays,
+    /// Scripts for `answers`: sheets and plays.
+    Sheets,
+}
+
+impl Subject {
+    pub fn from_name(name: &str) -> Option<Subject> {
+        match name {
+            "scripts" => Some(Subject::Scripts),
+            "plays" => Some(Subject::Plays),
+            "sheets" => Some(Subject::Sheets),
+            _ => None,
+        }
+    }
+}
+
+/// The text of `count` cases.
+pub fn generate(subject: Subject, seed: u64, count: u64) -> String {
+    match subject {
+        Subject::Scripts => scripts::generate(seed, count),
+        Subject::Plays => plays::generate(seed, count),
+        Subject::Sheets => sheets::generate(seed, count),
+    }
+}
+
+/// The text so far, and the program that reads it: each line is run as it is
+/// written, so that the next can be chosen by the state it leaves.
+struct Tape<R> {
+    text: String,
+    runner: R,
+}
+
+impl<R: LineRunner> Tape<R> {
+    fn new(runner: R) -> Tape<R> {
+        Tape { text: String::new(), runner }
+    }
+
+    /// Adds a line, given with or without its LF, and gives what the program
+    /// writes for it.
+    fn line(&mut self, line: &str) -> String {
+        let line = line.trim_end_matches('\n');
+        let words: Vec<&[u8]> = line.as_bytes().split(|&byte| byte == b' ').collect();
+        let mut out = String::new();
+        self.runner
+            .run(&words, &mut out)
+            .unwrap_or_else(|| panic!("the generator wrote a bad line: {line}"));
+        self.text.push_str(line);
+        self.text.push('\n');
+        out
+    }
+
+    fn lines(&mut self, text: &str) {
+        for line in text.lines() {
+            self.line(line);
+        }
+    }
+}

@@ -1,0 +1,425 @@
+//! What all kinds of cases are made of: prepared chips, address pairs, sheets
+//! and their faults.
+
+use super::random::Random;
+use crate::chip::{Area, CONNECTION_ID, Flash, PAGE, Span};
+use crate::frames::address_bytes;
+use crate::lines::{byte_line, flash_line};
+use crate::meaning::meaning;
+use crate::options::{self, Options};
+use crate::sheet::{COUNT_LENGTH, ENTRY_LENGTH, Kind, MOST_BYTES, MOST_STEPS, Sheet, Step};
+use crate::status;
+
+/// What a chip holds before its power-on.
+pub struct Preparation {
+    pub options: Option<Options>,
+    pub patches: Vec<Patch>,
+}
+
+pub struct Patch {
+    area: Area,
+    address: u32,
+    bytes: Vec<u8>,
+}
+
+impl Preparation {
+    pub fn random(random: &mut Random) -> Preparation {
+        let options = random.chance(70).then(|| random_options(random));
+        let asks_for_id = options.is_some_and(|options| !options.sf2_has(options::IDEN));
+        let mut patches = Vec::new();
+        if random.chance(if asks_for_id { 70 } else { 10 }) {
+            let address = CONNECTION_ID.start as u32;
+            patches.push(Patch { area: Area::Code, address, bytes: random.bytes(10) });
+        }
+        if random.chance(60) {
+            for _ in 0..random.between(1, 4) {
+                patches.push(random_patch(random));
+            }
+        }
+        Preparation { options, patches }
+    }
+
+    pub fn lines(&self) -> String {
+        let mut text = String::new();
+        if let Some(Options { sf1, sf2, sws, swe }) = self.options {
+            text.push_str(&format!("options {sf1:02X} {sf2:02X} {sws:04X} {swe:04X}\n"));
+        }
+        for patch in &self.patches {
+            text.push_str(&flash_line(patch.area, patch.address, &patch.bytes));
+        }
+        text
+    }
+
+    /// A chip's contents after this preparation.
+    pub fn contents(&self) -> (Flash, Options) {
+        let mut flash = Flash::blank();
+        for patch in &self.patches {
+            flash
+                .store(patch.area, patch.address, &patch.bytes)
+                .expect("a patch lies inside its flash");
+        }
+        (flash, self.options.unwrap_or(Options::FRESH))
+    }
+}
+
+/// Options with some named bits 0 and any stray bits.
+pub fn random_options(random: &mut Random) -> Options {
+    let mut options = match random.below(3) {
+        0 => Options::FRESH,
+        // The named bits alone.
+        1 => Options { sf1: 0x16, sf2: 0x1D, sws: 0x81FF, swe: 0x81FF },
+        _ => Options {
+            sf1: random.byte() | 0x16,
+            sf2: random.byte() | 0x1D,
+            sws: random.word() | 0x81FF,
+            swe: random.word() | 0x81FF,
+        },
+    };
+    for (flag, percent) in [(options::BTPR, 22), (options::SEPR, 14), (options::WRPR, 14)] {
+        if random.chance(percent) {
+            options.sf1 &= !flag;
+        }
+    }
+    let sf2_flags =
+        [(options::IDEN, 25), (options::IFPR, 4), (options::SWPR, 15), (options::CMPR, 15)];
+    for (flag, percent) in sf2_flags {
+        if random.chance(percent) {
+            options.sf2 &= !flag;
+        }
+    }
+    if random.chance(18) {
+        options.sws &= !options::FSPR;
+    }
+    if random.chance(30) {
+        options.swe &= !options::FSWC;
+    }
+    if random.chance(60) {
+        let start = random_window_block(random);
+        let end = if random.chance(25) { start } else { random_window_block(random) };
+        options.sws = (options.sws & !options::WINDOW_BLOCK) | start;
+        options.swe = (options.swe & !options::WINDOW_BLOCK) | end;
+    }
+    options
+}
+
+fn random_window_block(random: &mut Random) -> u16 {
+    match random.below(3) {
+        0 => random.below(16) as u16,
+        1 => random.pick(&[0, 15, 16, 255, 256, 511]),
+        _ => random.below(512) as u16,
+    }
+}
+
+fn random_patch(random: &mut Random) -> Patch {
+    let area = random_area(random);
+    let pages = area.length() / PAGE;
+    let (start, bytes) = match random.below(4) {
+        // The first or last byte of a page, often at an edge of some kind.
+        0 => {
+            let edges: &[usize] = match area {
+                Area::Code => &[0, 7, 8, 63, 64, 127],
+                Area::Data => &[0, 1, 2, 7],
+            };
+            let page = if random.chance(60) { random.pick(edges) } else { random.below(pages) };
+            (page * PAGE + random.pick(&[0, PAGE - 1]), vec![random.pick(&[0x00, 0xFE, 0x7F])])
+        }
+        1 => (random.below(pages) * PAGE, random.bytes(PAGE)),
+        2 => (random.below(pages) * PAGE, vec![random.byte(); PAGE]),
+        _ => {
+            let count = random.between(1, 40);
+            (random.below(area.length() - count), random.bytes(count))
+        }
+    };
+    Patch { area, address: area.first_address() + start as u32, bytes }
+}
+
+pub fn random_area(random: &mut Random) -> Area {
+    if random.chance(60) { Area::Data } else { Area::Code }
+}
+
+/// One or more blocks of a flash, mostly few.
+pub fn random_span(random: &mut Random, area: Area, most_blocks: usize) -> Span {
+    let blocks = Span::whole(area).blocks();
+    let first = match area {
+        Area::Code if random.chance(50) => random.pick(&[0, 6, 7, 8, 15]),
+        _ => random.below(blocks),
+    };
+    let room = (blocks - first).min(most_blocks);
+    let count = if random.chance(50) { 1 } else { random.between(1, room) };
+    let length = area.block_length();
+    Span { area, start: first * length, length: count * length }
+}
+
+/// A pair of addresses that is not valid.
+pub fn bad_pair(random: &mut Random) -> (u32, u32) {
+    loop {
+        let area = random_area(random);
+        let span = random_span(random, area, 3);
+        let (sad, ead) = (span.first_address(), span.last_address());
+        let pair = match random.below(10) {
+            0 => (sad + 1, ead),
+            1 => (sad, ead - 1),
+            2 => (sad, ead + 1),
+            3 => (ead, sad),
+            // Pages, but not blocks of code flash.
+            4 => (sad + PAGE as u32, ead),
+            5 => (sad, ead - PAGE as u32),
+            // From one flash into the other.
+            6 => (random.pick(&[0x00000, 0x00800, 0x07800]), random.pick(&[0xF10FF, 0xF17FF])),
+            7 => (random.pick(&[0x08000, 0xF0800, 0xF1800, 0xFF800]), ead + 0x800),
+            8 => (sad, ead + random.pick(&[0x8000, 0x10_0000, 0x80_0000])),
+            _ => (random.below(1 << 24) as u32, random.below(1 << 24) as u32),
+        };
+        if Span::of_pair(pair.0, pair.1).is_none() && pair.0.max(pair.1) < 1 << 24 {
+            return pair;
+        }
+    }
+}
+
+/// A page or body of bytes of one sort.
+pub fn random_body(random: &mut Random, length: usize) -> Vec<u8> {
+    match random.below(6) {
+        0 => vec![0xFF; length],
+        1 => vec![random.byte(); length],
+        2 => (0..length).map(|at| at as u8).collect(),
+        // Random pages, some of them blank.
+        3 => (0..length / PAGE)
+            .flat_map(|_| if random.chance(40) { vec![0xFF; PAGE] } else { random.bytes(PAGE) })
+            .collect(),
+        _ => random.bytes(length),
+    }
+}
+
+/// Changes one byte.
+pub fn change_byte(random: &mut Random, bytes: &mut [u8]) {
+    let at = match random.below(4) {
+        0 => 0,
+        1 => bytes.len() - 1,
+        _ => random.below(bytes.len()),
+    };
+    bytes[at] = random.other_byte(bytes[at]);
+}
+
+/// A sheet before it is written down.
+#[derive(Clone)]
+pub struct Plan {
+    pub steps: Vec<PlannedStep>,
+}
+
+#[derive(Clone)]
+pub struct PlannedStep {
+    pub kind: Kind,
+    pub span: Span,
+    pub body: Vec<u8>,
+}
+
+/// How large a plan may become.
+#[derive(Clone, Copy)]
+pub struct Size {
+    pub steps: usize,
+    /// Of a code span with a body; other spans are free.
+    pub code_blocks: usize,
+    /// Of all bodies together.
+    pub body_bytes: usize,
+}
+
+impl Plan {
+    /// A plan made for a chip: mostly its steps do well, and verify bodies
+    /// match, up to some step.
+    pub fn random(random: &mut Random, flash: &Flash, options: &Options, size: Size) -> Plan {
+        let mut flash = flash.clone();
+        let mut plan = Plan { steps: Vec::new() };
+        let mut body_bytes = 0;
+        let wanted = if random.chance(4) { 0 } else { random.between(1, size.steps) };
+        let tolerance = random.pick(&[5, 50, 100, 100]);
+        for _ in 0..wanted * 3 {
+            if plan.steps.len() == wanted {
+                break;
+            }
+            let step = plan.random_step(random, &flash, size);
+            if body_bytes + step.body.len() > size.body_bytes {
+                continue;
+            }
+            let mut flash_after = flash.clone();
+            let sheet = Sheet { steps: vec![step.as_step()] };
+            let outcome = meaning(&sheet, &mut flash_after, options);
+            if outcome.status != status::ACK && !random.chance(tolerance) {
+                continue;
+            }
+            flash = flash_after;
+            body_bytes += step.body.len();
+            plan.steps.push(step);
+        }
+        plan
+    }
+
+    fn random_step(&self, random: &mut Random, flash: &Flash, size: Size) -> PlannedStep {
+        use Kind::{Erase, Sum, Verify, Write};
+        let kind = random.pick(&[Erase, Erase, Write, Write, Write, Verify, Verify, Sum, Sum]);
+        let span = match self.steps.last() {
+            Some(before) if random.chance(50) => before.span,
+            _ => {
+                let area = random_area(random);
+                let most = match area {
+                    Area::Code if kind.has_body() => size.code_blocks,
+                    _ => 16,
+                };
+                random_span(random, area, most)
+            }
+        };
+        PlannedStep::random(random, kind, span, flash)
+    }
+
+    pub fn bytes(&self) -> Vec<u8> {
+        let mut bytes = (self.steps.len() as u16).to_le_bytes().to_vec();
+        let mut offset = COUNT_LENGTH + ENTRY_LENGTH * self.steps.len();
+        for step in &self.steps {
+            bytes.push(step.kind.number());
+            bytes.extend(address_bytes(step.span.first_address()));
+            bytes.extend(address_bytes(step.span.last_address()));
+            bytes.push(0);
+            bytes.extend((offset as u32).to_le_bytes());
+            offset += step.body.len();
+        }
+        for step in &self.steps {
+            bytes.extend(&step.body);
+        }
+        bytes
+    }
+
+    /// The plan's bytes with one or more faults in them.
+    pub fn faulty_bytes(&self, random: &mut Random) -> Vec<u8> {
+        let mut faults: Vec<Fault> = Vec::new();
+        for _ in 0..random.pick(&[1, 1, 2, 2, 3]) {
+            faults.push(random.pick(&Fault::CHOICES));
+        }
+        // Faults of length come last, so that the others find their bytes.
+        faults.sort();
+        let mut bytes = self.bytes();
+        for fault in faults {
+            fault.put_in(random, &mut bytes, self.steps.len());
+        }
+        bytes
+    }
+}
+
+impl PlannedStep {
+    pub fn random(random: &mut Random, kind: Kind, span: Span, flash: &Flash) -> PlannedStep {
+        let body = match kind {
+            Kind::Erase | Kind::Sum => Vec::new(),
+            Kind::Write => random_body(random, span.length),
+            Kind::Verify if random.chance(15) => random_body(random, span.length),
+            Kind::Verify => {
+                let mut body = flash.part(span).to_vec();
+                if random.chance(20) {
+                    change_byte(random, &mut body);
+                }
+                body
+            }
+        };
+        PlannedStep { kind, span, body }
+    }
+
+    fn as_step(&self) -> Step<'_> {
+        Step { kind: self.kind, span: self.span, body: &self.body }
+    }
+}
+
+/// A fault of a sheet, named by the refusal it leads to when alone.
+#[derive(Clone, Copy, PartialEq, Eq, PartialOrd, Ord)]
+enum Fault {
+    J4,
+    J5,
+    J6,
+    J7,
+    J2,
+    J9,
+    J8,
+    J3,
+    J1,
+}
+
+impl Fault {
+    /// All faults; those that others hide easily come more than once.
+    const CHOICES: [Fault; 18] = [
+        Fault::J4,
+        Fault::J4,
+        Fault::J5,
+        Fault::J5,
+        Fault::J6,
+        Fault::J6,
+        Fault::J6,
+        Fault::J7,
+        Fault::J7,
+        Fault::J7,
+        Fault::J2,
+        Fault::J9,
+        Fault::J9,
+        Fault::J8,
+        Fault::J8,
+        Fault::J8,
+        Fault::J3,
+        Fault::J1,
+    ];
+
+    /// Changes a sheet of `count` entries. At least one byte stays.
+    fn put_in(self, random: &mut Random, bytes: &mut Vec<u8>, count: usize) {
+        let table_end = COUNT_LENGTH + ENTRY_LENGTH * count;
+        if count == 0 && matches!(self, Fault::J4 | Fault::J5 | Fault::J6 | Fault::J7) {
+            return;
+        }
+        let entry = COUNT_LENGTH + ENTRY_LENGTH * random.below(count.max(1));
+        match self {
+            Fault::J4 => bytes[entry] = random.pick(&[0, 5, 6, 0x81, 0xFF]),
+            Fault::J5 => bytes[entry + 7] = random.pick(&[1, 0x80, 0xFF]),
+            Fault::J6 => {
+                let (sad, ead) = bad_pair(random);
+                bytes[entry + 1..entry + 4].copy_from_slice(&address_bytes(sad));
+                bytes[entry + 4..entry + 7].copy_from_slice(&address_bytes(ead));
+            }
+            Fault::J7 => {
+                let at = entry + 8 + random.below(4);
+                bytes[at] = match random.below(3) {
+                    0 => bytes[at].wrapping_add(1),
+                    1 => bytes[at].wrapping_sub(1),
+                    _ => random.other_byte(bytes[at]),
+                };
+            }
+            Fault::J2 => {
+                let wrong = random.pick(&[65, 66, 256, 0x4000, 0xFFFF]);
+                bytes[..COUNT_LENGTH].copy_from_slice(&u16::to_le_bytes(wrong));
+            }
+            Fault::J9 => {
+                let more = random.between(1, 3);
+                bytes.extend(random.bytes(more));
+            }
+            Fault::J8 if bytes.len() > table_end => {
+                let bodies = bytes.len() - table_end;
+                let kept = if random.chance(50) { bodies - 1 } else { random.below(bodies) };
+                bytes.truncate(table_end + kept);
+            }
+            Fault::J8 => {}
+            Fault::J3 if count > 0 => {
+                let table = table_end - COUNT_LENGTH;
+                let kept = if random.chance(50) { table - 1 } else { random.below(table) };
+                bytes.truncate(COUNT_LENGTH + kept);
+            }
+            Fault::J3 => bytes[0] = random.between(1, MOST_STEPS) as u8,
+            Fault::J1 => bytes.truncate(1),
+        }
+    }
+}
+
+/// `sheet` lines for these bytes, none of them long.
+pub fn sheet_lines(random: &mut Random, bytes: &[u8]) -> String {
+    const MOST_OF_LINE: usize = 4_096;
+    let most = if random.chance(70) { MOST_OF_LINE } else { random.between(16, 1_024) };
+    bytes.chunks(most).map(|chunk| byte_line("sheet", chunk)).collect()
+}
+
+/// A sheet at the limit of length, or one byte past it.
+pub fn huge_sheet(random: &mut Random) -> Vec<u8> {
+    let mut bytes = vec![0; MOST_BYTES + random.below(2)];
+    bytes[0] = random.pick(&[0, 65]);
+    bytes
+}

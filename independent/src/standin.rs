@@ -1,0 +1,374 @@
+//! The stand-in: the chip's side of the line, one received byte a call.
+
+use crate::chip::{BLANK, Flash, Span, all_blank, checksum};
+use crate::frames::{self, COMMAND_START, DATA_START, END, Received, Receiver, code};
+use crate::options::{BTPR, IDEN, IFPR, Options, SEPR};
+use crate::status;
+
+#[derive(Clone, Copy, Debug, PartialEq, Eq)]
+pub enum Phase {
+    /// The power is off.
+    Off,
+    Mode,
+    Speed,
+    Ident,
+    Command,
+    Silent,
+}
+
+impl Phase {
+    pub fn name(self) -> &'static str {
+        match self {
+            Phase::Off => "Off",
+            Phase::Mode => "Mode",
+            Phase::Speed => "Speed",
+            Phase::Ident => "Ident",
+            Phase::Command => "Command",
+            Phase::Silent => "Silent",
+        }
+    }
+}
+
+/// Each code has one length and one phase.
+struct Rule {
+    code: u8,
+    len: u8,
+    phase: Phase,
+}
+
+const fn rule(code: u8, len: u8, phase: Phase) -> Rule {
+    Rule { code, len, phase }
+}
+
+const RULES: [Rule; 12] = [
+    rule(code::RESET, 1, Phase::Command),
+    rule(code::VERIFY, 7, Phase::Command),
+    rule(code::ERASE, 4, Phase::Command),
+    rule(code::PROGRAM, 7, Phase::Command),
+    rule(code::SPEED, 3, Phase::Speed),
+    rule(code::IDENT, 11, Phase::Ident),
+    // Table 6-38 of the guide: a reserved byte of any value follows SF2, so
+    // LEN is 4 and not 3.
+    rule(code::SECURITY_SET, 4, Phase::Command),
+    rule(code::SECURITY_GET, 1, Phase::Command),
+    rule(code::RELEASE, 1, Phase::Command),
+    rule(code::WINDOW_SET, 5, Phase::Command),
+    rule(code::WINDOW_GET, 1, Phase::Command),
+    rule(code::CHECKSUM, 7, Phase::Command),
+];
+
+/// Answer to Baud Rate Set: status, 32 MHz, full-speed mode.
+const SPEED_ANSWER: [u8; 3] = [status::ACK, 0x20, 0x00];
+
+/// A Programming or Verify command that awaits data frames.
+#[derive(Clone)]
+struct Transfer {
+    span: Span,
+    page: usize,
+    work: Work,
+}
+
+#[derive(Clone, Copy)]
+enum Work {
+    /// With the write status of the page before, 06h at the first.
+    Write { before: u8 },
+    /// With the word whether some page differed so far.
+    Verify { differs: bool },
+}
+
+/// What the data frame due next is for.
+pub struct DuePage {
+    pub page: Span,
+    pub last: bool,
+    pub writes: bool,
+    /// Whether the page before, of the same command, was not written.
+    pub failed_before: bool,
+}
+
+#[derive(Clone)]
+pub struct StandIn {
+    pub flash: Flash,
+    pub options: Options,
+    phase: Phase,
+    receiver: Receiver,
+    transfer: Option<Transfer>,
+}
+
+impl StandIn {
+    /// A fresh chip, power off.
+    pub fn fresh() -> StandIn {
+        StandIn::holding(Flash::blank(), Options::FRESH)
+    }
+
+    /// A chip with these contents, power off.
+    pub fn holding(flash: Flash, options: Options) -> StandIn {
+        StandIn { flash, options, phase: Phase::Off, receiver: Receiver::default(), transfer: None }
+    }
+
+    pub fn phase(&self) -> Phase {
+        self.phase
+    }
+
+    /// Whether the next byte 01h would begin a command: phase Command, no
+    /// command begun, nothing half received.
+    pub fn waits_for_command(&self) -> bool {
+        self.phase == Phase::Command && self.transfer.is_none() && self.receiver.is_idle()
+    }
+
+    pub fn due_page(&self) -> Option<DuePage> {
+        self.transfer.as_ref().map(|transfer| DuePage {
+            page: transfer.span.page(transfer.page),
+            last: transfer.is_at_last(),
+            writes: matches!(transfer.work, Work::Write { .. }),
+            failed_before: matches!(
+                transfer.work,
+                Work::Write { before } if before != status::ACK
+            ),
+        })
+    }
+
+    pub fn power_on(&mut self) {
+        self.start_afresh();
+        self.phase = if self.options.sf2_has(IFPR) { Phase::Mode } else { Phase::Silent };
+    }
+
+    pub fn power_off(&mut self) {
+        self.start_afresh();
+        self.phase = Phase::Off;
+    }
+
+    fn start_afresh(&mut self) {
+        self.receiver = Receiver::default();
+        self.transfer = None;
+    }
+
+    /// Takes one byte and gives the bytes answered to it.
+    pub fn receive(&mut self, byte: u8) -> Vec<u8> {
+        match self.phase {
+            Phase::Off | Phase::Silent => Vec::new(),
+            Phase::Mode => {
+                self.phase = match byte {
+                    0x3A | 0x00 => Phase::Speed,
+                    _ => Phase::Silent,
+                };
+                Vec::new()
+            }
+            Phase::Speed | Phase::Ident | Phase::Command => match self.transfer.take() {
+                None => match self.receiver.take(byte, COMMAND_START) {
+                    Some(frame) => self.take_command(&frame),
+                    None => Vec::new(),
+                },
+                Some(transfer) => match self.receiver.take(byte, DATA_START) {
+                    Some(frame) => self.take_page(transfer, &frame),
+                    None => {
+                        self.transfer = Some(transfer);
+                        Vec::new()
+                    }
+                },
+            },
+        }
+    }
+
+    /// Takes bytes one by one and gives all that was answered to them.
+    pub fn receive_all(&mut self, bytes: &[u8]) -> Vec<u8> {
+        bytes.iter().flat_map(|&byte| self.receive(byte)).collect()
+    }
+
+    fn take_command(&mut self, frame: &Received) -> Vec<u8> {
+        match self.judge_command(frame) {
+            Ok(answers) => answers,
+            Err(fault) => frames::answer(&[fault]),
+        }
+    }
+
+    /// The answers of a command that is well, or the status byte of the first
+    /// fault.
+    fn judge_command(&mut self, frame: &Received) -> Result<Vec<u8>, u8> {
+        if frame.end != END {
+            return Err(status::NACK);
+        }
+        if !frame.sum_is_right() {
+            return Err(status::CHECKSUM);
+        }
+        let code = frame.body[0];
+        let rule = RULES
+            .iter()
+            .find(|rule| rule.code == code && rule.phase == self.phase)
+            .ok_or(status::COMMAND_NUMBER)?;
+        let outcome = if frame.len == rule.len {
+            self.obey(code, &frame.body[1..])
+        } else {
+            Err(status::NACK)
+        };
+        // From here on a fault before phase Command is a LEN, parameter or ID
+        // fault in 9Ah or 9Ch.
+        if outcome.is_err() && self.phase != Phase::Command {
+            self.phase = Phase::Silent;
+        }
+        outcome
+    }
+
+    /// Does a command whose frame, code and LEN are right.
+    fn obey(&mut self, code: u8, information: &[u8]) -> Result<Vec<u8>, u8> {
+        match code {
+            code::SPEED => self.set_speed(information[0], information[1]),
+            code::IDENT => self.identify(information),
+            code::ERASE => self.erase(information),
+            code::PROGRAM => self.begin(information, Work::Write { before: status::ACK }),
+            code::VERIFY => self.begin(information, Work::Verify { differs: false }),
+            code::CHECKSUM => {
+                let sum = checksum(self.flash.part(pair_in(information)?));
+                Ok(ack_and(&sum.to_le_bytes()))
+            }
+            code::SECURITY_SET => Ok(self.set_security(information[0], information[1])),
+            code::SECURITY_GET => Ok(ack_and(&self.options.shown_flags())),
+            code::RELEASE => self.release(),
+            code::WINDOW_SET => self.set_window(information),
+            code::WINDOW_GET => Ok(ack_and(&self.options.shown_window())),
+            code::RESET => Ok(ack()),
+            _ => Err(status::COMMAND_NUMBER),
+        }
+    }
+
+    fn set_speed(&mut self, brt: u8, vdd: u8) -> Result<Vec<u8>, u8> {
+        if brt > 3 || !(0x10..=0x37).contains(&vdd) {
+            return Err(status::PARAMETER);
+        }
+        self.phase = if self.options.sf2_has(IDEN) { Phase::Command } else { Phase::Ident };
+        Ok(frames::answer(&SPEED_ANSWER))
+    }
+
+    fn identify(&mut self, id: &[u8]) -> Result<Vec<u8>, u8> {
+        if id != self.flash.connection_id() {
+            return Err(status::ID);
+        }
+        self.phase = Phase::Command;
+        Ok(ack())
+    }
+
+    fn erase(&mut self, information: &[u8]) -> Result<Vec<u8>, u8> {
+        let block = Span::of_block(address_in(information, 0)).ok_or(status::PARAMETER)?;
+        if self.options.erase_protects(block) {
+            return Err(status::PROTECTED);
+        }
+        self.flash.part_mut(block).fill(BLANK);
+        Ok(ack())
+    }
+
+    fn set_security(&mut self, sf1: u8, sf2: u8) -> Vec<u8> {
+        self.options.clear_flags(sf1, sf2);
+        if self.options.sf2_has(IFPR) {
+            return ack();
+        }
+        self.phase = Phase::Silent;
+        Vec::new()
+    }
+
+    fn release(&mut self) -> Result<Vec<u8>, u8> {
+        if !self.flash.is_blank() {
+            return Err(status::NOT_BLANK);
+        }
+        if !self.options.sf1_has(SEPR) || !self.options.sf1_has(BTPR) {
+            return Err(status::PROTECTED);
+        }
+        self.options.release();
+        Ok(ack())
+    }
+
+    fn set_window(&mut self, information: &[u8]) -> Result<Vec<u8>, u8> {
+        if !self.options.window_is_open() {
+            return Err(status::PROTECTED);
+        }
+        let sws = u16::from_le_bytes([information[0], information[1]]);
+        let swe = u16::from_le_bytes([information[2], information[3]]);
+        self.options.set_window(sws, swe);
+        Ok(ack())
+    }
+
+    fn begin(&mut self, information: &[u8], work: Work) -> Result<Vec<u8>, u8> {
+        let span = pair_in(information)?;
+        self.transfer = Some(Transfer { span, page: 0, work });
+        Ok(ack())
+    }
+
+    /// Takes the data frame for the transfer's page. The transfer was taken
+    /// out of the record; it goes back only if more frames are due.
+    fn take_page(&mut self, mut transfer: Transfer, frame: &Received) -> Vec<u8> {
+        let last = transfer.is_at_last();
+        let page = transfer.span.page(transfer.page);
+        let line = line_status(frame, last);
+        let pair = match &mut transfer.work {
+            Work::Write { before } => {
+                if line != status::ACK || *before != status::ACK {
+                    return frames::answer(&[line, *before]);
+                }
+                *before = self.write_page(page, &frame.body);
+                // The answer to a page that is not the last tells nothing of
+                // this page: its status goes out with the next frame's.
+                [line, if last { *before } else { status::ACK }]
+            }
+            Work::Verify { differs } => {
+                if line != status::ACK {
+                    return frames::answer(&[line, status::ACK]);
+                }
+                *differs |= self.flash.part(page) != frame.body;
+                [line, if last && *differs { status::VERIFY } else { status::ACK }]
+            }
+        };
+        if !last {
+            transfer.page += 1;
+            self.transfer = Some(transfer);
+        }
+        frames::answer(&pair)
+    }
+
+    /// Writes a page, or leaves it as it is; gives its write status.
+    fn write_page(&mut self, page: Span, bytes: &[u8]) -> u8 {
+        if self.options.write_protects(page) {
+            return status::PROTECTED;
+        }
+        let part = self.flash.part_mut(page);
+        if !all_blank(part) {
+            return status::WRITE;
+        }
+        part.copy_from_slice(bytes);
+        status::ACK
+    }
+}
+
+impl Transfer {
+    fn is_at_last(&self) -> bool {
+        self.page + 1 == self.span.pages()
+    }
+}
+
+/// The line status of a data frame.
+fn line_status(frame: &Received, last: bool) -> u8 {
+    if frame.end != frames::page_end(last) {
+        status::NACK
+    } else if !frame.sum_is_right() {
+        status::CHECKSUM
+    } else if frame.len != 0x00 {
+        status::NACK
+    } else {
+        status::ACK
+    }
+}
+
+fn ack() -> Vec<u8> {
+    frames::answer(&[status::ACK])
+}
+
+fn ack_and(body: &[u8]) -> Vec<u8> {
+    let mut answers = ack();
+    answers.extend(frames::answer(body));
+    answers
+}
+
+fn address_in(information: &[u8], at: usize) -> u32 {
+    frames::address_from([information[at], information[at + 1], information[at + 2]])
+}
+
+fn pair_in(information: &[u8]) -> Result<Span, u8> {
+    Span::of_pair(address_in(information, 0), address_in(information, 3)).ok_or(status::PARAMETER)
+}

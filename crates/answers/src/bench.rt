@@ -1,9 +1,10 @@
-// The chip and its power: what a line does to them.
+// The chip and its power: what the lines do to them.
 use crate::hex;
 use crate::output;
 use crate::part;
 use device::Core;
 use rules::Call;
+use rules::Flash;
 use rules::Options;
 use rules::Phase;
 use rules::Task;
@@ -16,58 +17,76 @@ pub struct Bench {
     pub core: Core,
 }
 
-// The chip while bytes are sent: how many bytes of the output are filled, and whether it has answered yet.
-pub struct Sending {
-    pub core: Core,
-    pub filled: usize,
-    pub answered: bool,
+// The chip while bytes are sent, and whether it has answered any of them.
+struct Sent {
+    core: Core,
+    answered: bool,
 }
 
-fn core_with(phase: Phase, o: Options) -> Core {
-    Core {
-        phase: phase,
-        task: Task::Idle,
-        options: o,
-        have: 0,
+// The chip with these options, its power off or just on.
+fn at(on: bool, phase: Phase, o: Options) -> Bench {
+    Bench {
+        on: on,
+        core: Core {
+            phase: phase,
+            task: Task::Idle,
+            options: o,
+            have: 0,
+        },
     }
 }
 
-// The power off, with these options stored.
 pub fn off(o: Options) -> Bench {
-    Bench {
-        on: false,
-        core: core_with(Phase::Silent, o),
-    }
+    at(false, Phase::Silent, o)
 }
 
-// A power-on, with the options as they stand.
-pub fn power_on(b: Bench) -> Bench {
+fn options_of(b: Bench) -> Options {
     let c = b.core;
-    let o = c.options;
-    if options::ifpr(o) == 0 {
-        return Bench {
-            on: true,
-            core: core_with(Phase::Silent, o),
-        };
-    }
-    Bench {
-        on: true,
-        core: core_with(Phase::Mode, o),
-    }
+    c.options
 }
 
-// The bytes of a row, stored in a flash from `at`.
-pub fn store(flash: &mut [u8], at: usize, row: &[u8]) {
-    let count = hex::row_size(row);
+// A fresh chip.
+pub fn fresh(code: &mut [u8], data: &mut [u8]) -> Bench {
+    flash::bytes::fill(code, 0xFF);
+    flash::bytes::fill(data, 0xFF);
+    off(options::fresh())
+}
+
+// A power-on, with options and flash as they stand.
+pub fn power_on(b: Bench) -> Bench {
+    io::write_all(1, b"!\n");
+    let o = options_of(b);
+    if options::ifpr(o) == 0 {
+        return at(true, Phase::Silent, o);
+    }
+    at(true, Phase::Mode, o)
+}
+
+// The bytes of a row, stored in a flash from `at`, if they all lie in it.
+fn store_in(flash: &mut [u8], at: usize, row: &[u8]) {
     if at > flash.len() {
         return;
     }
+    let count = hex::row_size(row);
     if count > flash.len() - at {
         return;
     }
     for k in 0..count {
         flash[at + k] = hex::row_byte(row, k);
     }
+}
+
+fn store_to(f: Flash, code: &mut [u8], data: &mut [u8], at: usize, row: &[u8]) {
+    match f {
+        Flash::Code => store_in(code, at, row),
+        Flash::Data => store_in(data, at, row),
+    }
+}
+
+// The bytes of a row stored, and the power off.
+pub fn store(b: Bench, f: Flash, at: usize, row: &[u8], code: &mut [u8], data: &mut [u8]) -> Bench {
+    store_to(f, code, data, at, row);
+    off(options_of(b))
 }
 
 fn size_of(call: Call) -> usize {
@@ -77,77 +96,87 @@ fn size_of(call: Call) -> usize {
     }
 }
 
-// One byte to the chip; what it answers goes to the output.
-fn send_byte(
-    s: Sending,
-    byte: u8,
-    frame: &mut [u8; 260],
-    code: &mut [u8],
-    data: &mut [u8],
-    out: &mut [u8],
-) -> Sending
+// Writes the first `size` bytes of a reply: they begin the answer line, or go on with it.
+fn answer(reply: &[u8], size: usize, answered: bool) {
+    let mut line = [b'<'; 64];
+    let mut from: usize = 1;
+    if answered {
+        from = 0;
+    }
+    let end = output::row(&mut line, from, part::between(reply, 0, size));
+    io::write_all(1, part::between(&line, 0, end));
+}
+
+// One byte to the chip; what it answers is written.
+fn send_byte(s: Sent, byte: u8, frame: &mut [u8; 260], code: &mut [u8], data: &mut [u8]) -> Sent
     requires { ⌜ length (now frame) ≡ 260 ⌝ }
     ensures { λ _. ⌜ length (now (frame .exit)) ≡ 260 ⌝ }
 {
     let mut reply = [0u8; 16];
+    let chip = flash::finder::small();
     let c = s.core;
-    let t = standin::engine::take(
-        flash::finder::small(),
-        c,
-        byte,
-        frame,
-        code,
-        data,
-        &mut reply,
-    );
+    let t = standin::engine::take(chip, c, byte, frame, code, data, &mut reply);
     let core = t.core;
     let call = t.call;
     let size = size_of(call);
     if size == 0 {
-        return Sending {
+        return Sent {
             core: core,
-            filled: s.filled,
             answered: s.answered,
         };
     }
-    Sending {
+    answer(&reply, size, s.answered);
+    Sent {
         core: core,
-        filled: answer(out, s.filled, s.answered, &reply, size),
         answered: true,
     }
 }
 
-// The first `size` bytes of a reply, at the start of the answer line or further on in it.
-fn answer(out: &mut [u8], filled: usize, answered: bool, reply: &[u8], size: usize) -> usize {
-    let bytes = part::between(reply, 0, size);
-    if answered {
-        return output::row(out, filled, bytes);
-    }
-    let n = output::byte(out, filled, b'<');
-    output::row(out, n, bytes)
-}
-
-// The bytes of a row to the chip, one after the other.
-pub fn send(
-    core: Core,
-    row: &[u8],
-    frame: &mut [u8; 260],
-    code: &mut [u8],
-    data: &mut [u8],
-    out: &mut [u8],
-    filled: usize,
-) -> Sending
+// The bytes of a row to a chip with the power on, one after the other.
+fn send_row(core: Core, row: &[u8], frame: &mut [u8; 260], code: &mut [u8], data: &mut [u8]) -> Sent
     requires { ⌜ length (now frame) ≡ 260 ⌝ }
     ensures { λ _. ⌜ length (now (frame .exit)) ≡ 260 ⌝ }
 {
-    let mut s = Sending {
+    let mut s = Sent {
         core: core,
-        filled: filled,
         answered: false,
     };
     let count = hex::row_size(row);
     for k in 0..count {
-        s = send_byte(s, hex::row_byte(row, k), frame, code, data, out);
+        s = send_byte(s, hex::row_byte(row, k), frame, code, data);
     }
     s
+}
+
+fn end_line(answered: bool) {
+    if answered {
+        io::write_all(1, b"\n");
+    }
+}
+
+// `> HH HH ..`, written out again, and the line of the answers if there are any. With the power off there is no effect.
+pub fn send(
+    b: Bench,
+    text: &[u8],
+    row: &[u8],
+    frame: &mut [u8; 260],
+    code: &mut [u8],
+    data: &mut [u8],
+) -> Bench
+    requires { ⌜ length (now frame) ≡ 260 ⌝ }
+    ensures { λ _. ⌜ length (now (frame .exit)) ≡ 260 ⌝ }
+{
+    io::write_all(1, text);
+    end_line(true);
+    if !b.on {
+        return b;
+    }
+    let core = b.core;
+    let s = send_row(core, row, frame, code, data);
+    end_line(s.answered);
+    let sent = s.core;
+    Bench {
+        on: true,
+        core: sent,
+    }
 }

@@ -1,33 +1,33 @@
 // Hex digits: either case is read, upper case is written.
-ghost use Prim.Native.Nat.{_<_, _≤_};
+ghost use Prim.Native.Nat.{_≤_};
 
-// A number read, or the place where a digit was due and none stood.
+// A number read, or none where another byte stands among its digits.
 pub enum Number {
     Value(u32),
     Bad,
 }
 
 // The value of a digit; 16 for a byte that is none.
-pub fn value(byte: u8) -> u8
+fn value(byte: u8) -> u8
     ensures { λ r. ⌜ r ≤ 16 ⌝ }
 {
-    if byte < b'0' {
+    if byte >= b'a' {
+        if byte <= b'f' {
+            return byte - b'a' + 10;
+        }
         return 16;
     }
-    if byte <= b'9' {
-        return byte - b'0';
-    }
-    if byte < b'A' {
+    if byte >= b'A' {
+        if byte <= b'F' {
+            return byte - b'A' + 10;
+        }
         return 16;
     }
-    if byte <= b'F' {
-        return byte - b'A' + 10;
-    }
-    if byte < b'a' {
+    if byte >= b'0' {
+        if byte <= b'9' {
+            return byte - b'0';
+        }
         return 16;
-    }
-    if byte <= b'f' {
-        return byte - b'a' + 10;
     }
     16
 }
@@ -41,34 +41,69 @@ pub fn digit(v: u8) -> u8 {
     b'A' + (low - 10)
 }
 
-// The digit in upper case; a byte that is no digit as it is.
-pub fn upper(byte: u8) -> u8 {
-    let v = value(byte);
-    if v < 16 {
-        return digit(v);
+// Whether a byte stands in a line that begins with `>`, by the byte before it and whether that one does.
+fn in_sent(byte: u8, before: u8, was: bool) -> bool {
+    if before == b'\n' {
+        return byte == b'>';
     }
-    byte
+    was
 }
 
-// A number with one digit more: no more than eight digits are held.
+// A byte of such a line, a digit in upper case; any other byte as it is.
+fn written(byte: u8, sent: bool) -> u8 {
+    let v = value(byte);
+    if !sent {
+        return byte;
+    }
+    if v == 16 {
+        return byte;
+    }
+    digit(v)
+}
+
+// Puts each line of the first `n` bytes that begins with `>` in upper case, as it is written out again.
+pub fn raise(text: &mut [u8], n: usize) {
+    if n > text.len() {
+        return;
+    }
+    let mut before = b'\n';
+    let mut sent = false;
+    for i in 0..n {
+        let byte = text[i];
+        sent = in_sent(byte, before, sent);
+        text[i] = written(byte, sent);
+        before = byte;
+    }
+}
+
+// A number with one digit more: it holds no more than eight.
 fn with_digit(number: u32, v: u8) -> u32 {
     number % 0x1000_0000 * 16 + (v % 16) as u32
 }
 
-// The number whose digits stand from `from` up to `end`.
-pub fn read_number(text: &[u8], from: usize, end: usize) -> Number {
+// Whether a word can end there: a space follows, or nothing.
+fn ends_word(text: &[u8], end: usize) -> bool {
+    if end < text.len() {
+        return text[end] == b' ';
+    }
+    end == text.len()
+}
+
+// The number whose digits stand from `from` up to `end`, a word's end.
+pub fn word(text: &[u8], from: usize, end: usize) -> Number {
     if end > text.len() {
         return Number::Bad;
     }
+    if !ends_word(text, end) {
+        return Number::Bad;
+    }
     let mut number: u32 = 0;
-    let mut i = from;
-    while i < end {
+    for i in from..end {
         let v = value(text[i]);
         if v == 16 {
             return Number::Bad;
         }
         number = with_digit(number, v);
-        i += 1;
     }
     Number::Value(number)
 }
@@ -95,28 +130,17 @@ pub fn is_row(text: &[u8]) -> bool {
 }
 
 // How many bytes a row has.
-pub fn row_size(text: &[u8]) -> usize
-    ensures { λ r. ⌜ r ≤ 9223372036854775807 ⌝ }
-{
+pub fn row_size(text: &[u8]) -> usize {
     text.len() / 3 + 1
 }
 
-// The digit at that place of a row, 0 past its end.
-fn digit_at(text: &[u8], i: usize) -> u8 {
-    if i >= text.len() {
-        return 0;
-    }
-    value(text[i]) % 16
-}
-
-fn join(high: u8, low: u8) -> u8 {
-    high % 16 * 16 + low % 16
-}
-
-// Byte `k` of a row, 0 past its end.
+// Byte `k` of a row; 0 past its end.
 pub fn row_byte(text: &[u8], k: usize) -> u8 {
-    if k > text.len() / 3 {
+    if text.len() < 2 {
         return 0;
     }
-    join(digit_at(text, k * 3), digit_at(text, k * 3 + 1))
+    if k > (text.len() - 2) / 3 {
+        return 0;
+    }
+    value(text[k * 3]) % 16 * 16 + value(text[k * 3 + 1]) % 16
 }

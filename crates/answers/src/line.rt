@@ -9,14 +9,14 @@ use rules::Options;
 pub enum Line {
     Bad,
     Fresh,
-    Options(Options),
+    Stored(Options),
     Store(Flash, usize),
     PowerOn,
     Bytes,
     Show,
 }
 
-// Where a row of bytes begins in a line that stores it, `code AAAAA HH ..`, and in one that sends it, `> HH ..`.
+// Where the bytes begin in a line that stores them, `code AAAAA HH ..`, and in one that sends them, `> HH ..`.
 pub const STORED: usize = 11;
 
 pub const SENT: usize = 2;
@@ -25,38 +25,32 @@ fn starts_with(text: &[u8], s: &[u8]) -> bool {
     flash::bytes::same_bytes(part::between(text, 0, s.len()), s)
 }
 
-fn is_space(text: &[u8], i: usize) -> bool {
-    if i >= text.len() {
-        return false;
-    }
-    text[i] == b' '
-}
-
-// Where in its flash the bytes of a storing line go, if they all lie in it.
-fn store_line(text: &[u8], f: Flash, size: usize) -> Line {
-    let Number::Value(address) = hex::read_number(text, 5, 10) else {
-        return Line::Bad;
-    };
-    if !is_space(text, 10) {
-        return Line::Bad;
-    }
-    let bytes = part::rest(text, STORED);
-    if !hex::is_row(bytes) {
-        return Line::Bad;
-    }
+// Where so many bytes go that are stored from an address, if they all lie in the flash.
+fn place(f: Flash, size: usize, address: u32, count: usize) -> Line {
     let first = flash::finder::first_byte(f, Block(0));
-    let base = first.0;
-    if address < base {
+    if address < first.0 {
         return Line::Bad;
     }
-    let at = (address - base) as usize;
-    if at >= size {
+    let at = (address - first.0) as usize;
+    if at > size {
         return Line::Bad;
     }
-    if hex::row_size(bytes) > size - at {
+    if count > size - at {
         return Line::Bad;
     }
     Line::Store(f, at)
+}
+
+// `code AAAAA HH HH ..` and `data AAAAA HH HH ..`, for a flash of that size.
+fn store_line(text: &[u8], f: Flash, size: usize) -> Line {
+    let row = part::rest(text, STORED);
+    if !hex::is_row(row) {
+        return Line::Bad;
+    }
+    let Number::Value(address) = hex::word(text, 5, 10) else {
+        return Line::Bad;
+    };
+    place(f, size, address, hex::row_size(row))
 }
 
 // `options SF1 SF2 SWS SWE`
@@ -64,28 +58,19 @@ fn options_line(text: &[u8]) -> Line {
     if text.len() != 23 {
         return Line::Bad;
     }
-    if !is_space(text, 10) {
-        return Line::Bad;
-    }
-    if !is_space(text, 13) {
-        return Line::Bad;
-    }
-    if !is_space(text, 18) {
-        return Line::Bad;
-    }
-    let Number::Value(sf1) = hex::read_number(text, 8, 10) else {
+    let Number::Value(sf1) = hex::word(text, 8, 10) else {
         return Line::Bad;
     };
-    let Number::Value(sf2) = hex::read_number(text, 11, 13) else {
+    let Number::Value(sf2) = hex::word(text, 11, 13) else {
         return Line::Bad;
     };
-    let Number::Value(sws) = hex::read_number(text, 14, 18) else {
+    let Number::Value(sws) = hex::word(text, 14, 18) else {
         return Line::Bad;
     };
-    let Number::Value(swe) = hex::read_number(text, 19, 23) else {
+    let Number::Value(swe) = hex::word(text, 19, 23) else {
         return Line::Bad;
     };
-    Line::Options(Options {
+    Line::Stored(Options {
         sf1: (sf1 % 256) as u8,
         sf2: (sf2 % 256) as u8,
         sws: (sws % 65536) as u16,
@@ -93,6 +78,7 @@ fn options_line(text: &[u8]) -> Line {
     })
 }
 
+// `> HH HH ..`
 fn bytes_line(text: &[u8]) -> Line {
     if hex::is_row(part::rest(text, SENT)) {
         return Line::Bytes;

@@ -17,8 +17,15 @@ fn room() -> [u8; 1048577]
     [0; 1048577]
 }
 
+// Reads the input to its end, or until the room is full; how many bytes there are.
+fn read(input: &mut [u8]) -> usize {
+    let n = io::read_full(0, input);
+    hex::raise(input, n);
+    n
+}
+
 fn main() {
     let mut input = room();
-    let n = io::read_full(0, &mut input);
-    run::script(&input[..n]);
+    let n = read(&mut input);
+    run::script(part::between(&input, 0, n));
 }

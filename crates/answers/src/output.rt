@@ -1,72 +1,37 @@
-// What is written, gathered in a lent buffer that goes out whenever it is full. `n` bytes of it are filled.
+// Bytes as text, put into a lent line from `at` on: each answers where the next goes. What the line has no room for is left out.
 use crate::hex;
-use crate::part;
 
-// Writes out the filled part.
-pub fn flush(out: &[u8], n: usize) {
-    io::write_all(1, part::between(out, 0, n));
+fn put(line: &mut [u8], at: usize, byte: u8) -> usize {
+    if at >= line.len() {
+        return at;
+    }
+    line[at] = byte;
+    at + 1
 }
 
-pub fn byte(out: &mut [u8], n: usize, b: u8) -> usize {
-    if n < out.len() {
-        out[n] = b;
-        return n + 1;
-    }
-    io::write_all(1, &*out);
-    if out.len() == 0 {
-        return 0;
-    }
-    out[0] = b;
-    1
+// Two digits.
+fn pair(line: &mut [u8], at: usize, byte: u8) -> usize {
+    let at = put(line, at, hex::digit(byte / 16));
+    put(line, at, hex::digit(byte))
 }
 
-pub fn text(out: &mut [u8], filled: usize, s: &[u8]) -> usize {
-    let mut n = filled;
-    for i in 0..s.len() {
-        n = byte(out, n, s[i]);
-    }
-    n
+// A space and two digits.
+pub fn byte(line: &mut [u8], at: usize, byte: u8) -> usize {
+    let at = put(line, at, b' ');
+    pair(line, at, byte)
 }
 
-// The text with its hex digits in upper case.
-pub fn upper_text(out: &mut [u8], filled: usize, s: &[u8]) -> usize {
-    let mut n = filled;
-    for i in 0..s.len() {
-        n = byte(out, n, hex::upper(s[i]));
-    }
-    n
-}
-
-pub fn line_end(out: &mut [u8], n: usize) -> usize {
-    byte(out, n, b'\n')
+// A space and four digits.
+pub fn word(line: &mut [u8], at: usize, word: u16) -> usize {
+    let at = byte(line, at, (word / 256) as u8);
+    pair(line, at, (word % 256) as u8)
 }
 
 // A space and two digits for each byte.
-pub fn row(out: &mut [u8], filled: usize, s: &[u8]) -> usize {
-    let mut n = filled;
-    for i in 0..s.len() {
-        n = spaced(out, n, s[i]);
+pub fn row(line: &mut [u8], from: usize, bytes: &[u8]) -> usize {
+    let mut at = from;
+    for k in 0..bytes.len() {
+        at = byte(line, at, bytes[k]);
     }
-    n
-}
-
-fn spaced(out: &mut [u8], n: usize, b: u8) -> usize {
-    let n = byte(out, n, b' ');
-    let n = byte(out, n, hex::digit(b / 16));
-    byte(out, n, hex::digit(b))
-}
-
-// A space and a number of at least that many digits.
-pub fn word(out: &mut [u8], filled: usize, value: u32, digits: usize) -> usize {
-    let n = byte(out, filled, b' ');
-    let mut hex = [0u8; 16];
-    let k = io::hex(value as u64, digits, &mut hex);
-    upper_text(out, n, &hex[..k])
-}
-
-// A decimal number.
-pub fn decimal(out: &mut [u8], n: usize, value: u64) -> usize {
-    let mut digits = [0u8; 20];
-    let k = io::decimal(value, &mut digits);
-    text(out, n, &digits[..k])
+    at
 }

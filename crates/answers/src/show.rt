@@ -6,76 +6,78 @@ use rules::Flash;
 use rules::Options;
 use rules::Phase;
 
-fn phase_name(out: &mut [u8], n: usize, p: Phase) -> usize {
+fn phase_line(p: Phase) -> bool {
     match p {
-        Phase::Mode => output::text(out, n, b"Mode"),
-        Phase::Speed => output::text(out, n, b"Speed"),
-        Phase::Ident => output::text(out, n, b"Ident"),
-        Phase::Command => output::text(out, n, b"Command"),
-        Phase::Silent => output::text(out, n, b"Silent"),
+        Phase::Mode => io::write_all(1, b"phase Mode\n"),
+        Phase::Speed => io::write_all(1, b"phase Speed\n"),
+        Phase::Ident => io::write_all(1, b"phase Ident\n"),
+        Phase::Command => io::write_all(1, b"phase Command\n"),
+        Phase::Silent => io::write_all(1, b"phase Silent\n"),
     }
 }
 
-fn phase_line(out: &mut [u8], n: usize, b: Bench) -> usize {
-    let n = output::text(out, n, b"phase ");
+// With the power off the chip has no phase.
+fn power_line(b: Bench) -> bool {
     if !b.on {
-        return output::text(out, n, b"Off\n");
+        return io::write_all(1, b"phase Off\n");
     }
     let c = b.core;
     let p = c.phase;
-    let n = phase_name(out, n, p);
-    output::line_end(out, n)
+    phase_line(p)
 }
 
-fn options_line(out: &mut [u8], n: usize, o: Options) -> usize {
-    let n = output::text(out, n, b"options");
-    let n = output::word(out, n, o.sf1 as u32, 2);
-    let n = output::word(out, n, o.sf2 as u32, 2);
-    let n = output::word(out, n, o.sws as u32, 4);
-    let n = output::word(out, n, o.swe as u32, 4);
-    output::line_end(out, n)
+fn options_line(o: Options) {
+    let mut line = [b'\n'; 17];
+    let at = output::byte(&mut line, 0, o.sf1);
+    let at = output::byte(&mut line, at, o.sf2);
+    let at = output::word(&mut line, at, o.sws);
+    output::word(&mut line, at, o.swe);
+    io::write_all(1, b"options");
+    io::write_all(1, &line);
 }
 
-fn flash_name(out: &mut [u8], n: usize, f: Flash) -> usize {
+fn name(f: Flash) -> bool {
     match f {
-        Flash::Code => output::text(out, n, b"code"),
-        Flash::Data => output::text(out, n, b"data"),
+        Flash::Code => io::write_all(1, b"code"),
+        Flash::Data => io::write_all(1, b"data"),
     }
 }
 
-// The address of the first byte of a page.
-fn page_address(f: Flash, k: usize) -> u32 {
+// The digits of a page's address but the last, which is 0 for every page.
+fn place(f: Flash, k: usize) -> u16 {
     let first = flash::finder::first_byte(f, Block(0));
-    first.0 % 0x10_0000 + (k % 4096) as u32 * 256
+    let page = (k % 1024) as u32;
+    ((first.0 / 16 + page * 16) % 65536) as u16
 }
 
-fn page_line(out: &mut [u8], n: usize, f: Flash, k: usize, page: &[u8]) -> usize {
+// A page that is not blank: a space, the five digits of its address, its bytes and the line's end.
+fn page_line(f: Flash, k: usize, page: &[u8]) {
     if flash::bytes::is_blank(page) {
-        return n;
+        return;
     }
-    let n = flash_name(out, n, f);
-    let n = output::word(out, n, page_address(f, k), 5);
-    let n = output::row(out, n, page);
-    output::line_end(out, n)
+    let mut line = [b'\n'; 775];
+    output::word(&mut line, 0, place(f, k));
+    line[5] = b'0';
+    output::row(&mut line, 6, page);
+    name(f);
+    io::write_all(1, &line);
 }
 
 // The pages of one flash that are not blank.
-fn pages<'a>(out: &mut [u8], filled: usize, f: Flash, code: &'a [u8], data: &'a [u8]) -> usize {
+fn pages<'a>(f: Flash, code: &'a [u8], data: &'a [u8]) {
     let chip = flash::finder::small();
-    let count = flash::finder::pages_of(chip, f);
-    let mut n = filled;
-    for k in 0..count {
+    for k in 0..flash::finder::pages_of(chip, f) {
         let page = flash::finder::page_part(chip, code, data, f, k);
-        n = page_line(out, n, f, k, page);
+        page_line(f, k, page);
     }
-    n
 }
 
-pub fn all<'a>(out: &mut [u8], n: usize, b: Bench, code: &'a [u8], data: &'a [u8]) -> usize {
-    let n = phase_line(out, n, b);
+pub fn all<'a>(b: Bench, code: &'a [u8], data: &'a [u8]) -> Bench {
+    power_line(b);
     let c = b.core;
     let o = c.options;
-    let n = options_line(out, n, o);
-    let n = pages(out, n, Flash::Code, code, data);
-    pages(out, n, Flash::Data, code, data)
+    options_line(o);
+    pages(Flash::Code, code, data);
+    pages(Flash::Data, code, data);
+    b
 }

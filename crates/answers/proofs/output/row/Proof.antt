@@ -1,4 +1,4 @@
--- `answers::output::row` is safe and ends: each byte is passed once. Assumes nothing.
+-- `answers::output::row` is safe and ends: the line stays as long. Assumes nothing.
 use mathlib.Core.Path.{_≡_}
 use Prim.Native.Nat.{_-_, _≤_}
 use lib.ListN.{length}
@@ -7,22 +7,22 @@ use Rattle.answers.proofs.output.row.Statement.{statement}
 use Rattle.answers.proofs.output.row.Tie as tie
 
 abbrev Inv-loop : tie.InvT-loop
-Inv-loop out₀ filled s n₀ i₀ i-end out n i = (i ≤ length s) × (i-end ≡ length s) × (length out ≡ length out₀)
+Inv-loop line₀ from bytes at₀ k₀ k-end line at k = (k ≤ length bytes) × (k-end ≡ length bytes) × (length line ≡ length line₀)
 
 abbrev μ-loop : tie.MeasureT-loop
-μ-loop out₀ filled s n₀ i₀ i-end out n i = length s - i
+μ-loop line₀ from bytes at₀ k₀ k-end line at k = length bytes - k
 
 loop-holds : tie.Need-loop-holds Inv-loop μ-loop
 loop-holds c = search needs
 
-shared-slice-read-spaced : tie.Need-shared-slice-read-spaced Inv-loop μ-loop
-shared-slice-read-spaced c = search needs
+shared-slice-read-byte : tie.Need-shared-slice-read-byte Inv-loop μ-loop
+shared-slice-read-byte c = search needs
 
-spaced-requires : tie.Need-spaced-requires Inv-loop μ-loop
-spaced-requires c κs = search needs
+byte-requires : tie.Need-byte-requires Inv-loop μ-loop
+byte-requires c κs = search needs
 
-add-i : tie.Need-add-i Inv-loop μ-loop
-add-i c = search needs
+add-k : tie.Need-add-k Inv-loop μ-loop
+add-k c = search needs
 
 loop-less : tie.Need-loop-less Inv-loop μ-loop
 loop-less c = search needs
@@ -43,9 +43,9 @@ row-spec =
     Inv-loop
     μ-loop
     loop-holds
-    shared-slice-read-spaced
-    spaced-requires
-    add-i
+    shared-slice-read-byte
+    byte-requires
+    add-k
     loop-less
     loop-again
     same-length

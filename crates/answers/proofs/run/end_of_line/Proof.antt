@@ -1,4 +1,5 @@
 -- `answers::run::end_of_line` is safe and ends: it only looks further on. Assumes nothing.
+use mathlib.Core.Path.{_≡_}
 use Prim.Native.Nat.{_-_, _≤_}
 use lib.ListN.{length}
 use borrow.Author.Needs.{needs}
@@ -6,10 +7,10 @@ use Rattle.answers.proofs.run.end_of_line.Statement.{statement}
 use Rattle.answers.proofs.run.end_of_line.Tie as tie
 
 abbrev Inv-loop : tie.InvT-loop
-Inv-loop text from i₀ i = (from ≤ i) × (i ≤ length text)
+Inv-loop text from i₀ i-end i = (from ≤ i) × (i ≤ length text) × (i-end ≡ length text)
 
 abbrev μ-loop : tie.MeasureT-loop
-μ-loop text from i₀ i = length text - i
+μ-loop text from i₀ i-end i = length text - i
 
 loop-holds : tie.Need-loop-holds Inv-loop μ-loop
 loop-holds c = search needs

@@ -1,4 +1,4 @@
--- `answers::run::lines` is safe and ends: a line is behind what was run. Assumes nothing.
+-- `answers::run::lines` is safe and ends: what is behind is run. Assumes nothing.
 use mathlib.Core.Path.{_≡_}
 use Prim.Native.Nat.{_-_, _<_, _≤_}
 use lib.ListN.{length}
@@ -7,16 +7,13 @@ use Rattle.answers.proofs.run.lines.Statement.{statement}
 use Rattle.answers.proofs.run.lines.Tie as tie
 
 abbrev Inv-loop : tie.InvT-loop
-Inv-loop text frame₀ code₀ data₀ out₀ b₀ n₀ at₀ number₀ frame code «data» out b n at number = (length text < 18446744073709551616) × (number ≤ at) × (at ≤ length text) × (length frame ≡ 260) × (length code ≡ length code₀) × (length «data» ≡ length data₀) × (length out ≡ length out₀)
+Inv-loop text frame₀ code₀ data₀ b₀ at₀ number₀ frame code «data» b at number = (length text < 18446744073709551616) × (number ≤ at) × (at ≤ length text) × (length frame ≡ 260) × (length code ≡ length code₀) × (length «data» ≡ length data₀)
 
 abbrev μ-loop : tie.MeasureT-loop
-μ-loop text frame₀ code₀ data₀ out₀ b₀ n₀ at₀ number₀ frame code «data» out b n at number = length text - at
+μ-loop text frame₀ code₀ data₀ b₀ at₀ number₀ frame code «data» b at number = length text - at
 
 fresh-requires : tie.Need-fresh-requires Inv-loop μ-loop
 fresh-requires c κs = search needs
-
-off-requires : tie.Need-off-requires Inv-loop μ-loop
-off-requires c κs = search needs
 
 loop-holds : tie.Need-loop-holds Inv-loop μ-loop
 loop-holds c = search needs
@@ -27,17 +24,11 @@ add-number c = search needs
 end-of-line-requires : tie.Need-end-of-line-requires Inv-loop μ-loop
 end-of-line-requires c κs = search needs
 
-bad-line-requires : tie.Need-bad-line-requires Inv-loop μ-loop
-bad-line-requires c κs = search needs
-
 same-length : tie.Need-same-length Inv-loop μ-loop
 same-length c = search needs
 
 same-length-2 : tie.Need-same-length-2 Inv-loop μ-loop
 same-length-2 c = search needs
-
-same-length-3 : tie.Need-same-length-3 Inv-loop μ-loop
-same-length-3 c = search needs
 
 returns : tie.Need-returns Inv-loop μ-loop
 returns c = search needs
@@ -45,23 +36,23 @@ returns c = search needs
 between-requires : tie.Need-between-requires Inv-loop μ-loop
 between-requires c κs = search needs
 
-line-requires : tie.Need-line-requires Inv-loop μ-loop
-line-requires c κs = search needs
+parse-requires : tie.Need-parse-requires Inv-loop μ-loop
+parse-requires c κs = search needs
 
-bad-line-requires-2 : tie.Need-bad-line-requires-2 Inv-loop μ-loop
-bad-line-requires-2 c κs = search needs
+is-bad-requires : tie.Need-is-bad-requires Inv-loop μ-loop
+is-bad-requires c κs = search needs
+
+same-length-3 : tie.Need-same-length-3 Inv-loop μ-loop
+same-length-3 c = search needs
 
 same-length-4 : tie.Need-same-length-4 Inv-loop μ-loop
 same-length-4 c = search needs
 
-same-length-5 : tie.Need-same-length-5 Inv-loop μ-loop
-same-length-5 c = search needs
-
-same-length-6 : tie.Need-same-length-6 Inv-loop μ-loop
-same-length-6 c = search needs
-
 returns-2 : tie.Need-returns-2 Inv-loop μ-loop
 returns-2 c = search needs
+
+run-requires : tie.Need-run-requires Inv-loop μ-loop
+run-requires c κs = search needs
 
 add-at : tie.Need-add-at Inv-loop μ-loop
 add-at c = search needs
@@ -72,14 +63,11 @@ loop-less c = search needs
 loop-again : tie.Need-loop-again Inv-loop μ-loop
 loop-again c = search needs
 
-same-length-7 : tie.Need-same-length-7 Inv-loop μ-loop
-same-length-7 c = search needs
+same-length-5 : tie.Need-same-length-5 Inv-loop μ-loop
+same-length-5 c = search needs
 
-same-length-8 : tie.Need-same-length-8 Inv-loop μ-loop
-same-length-8 c = search needs
-
-same-length-9 : tie.Need-same-length-9 Inv-loop μ-loop
-same-length-9 c = search needs
+same-length-6 : tie.Need-same-length-6 Inv-loop μ-loop
+same-length-6 c = search needs
 
 returns-3 : tie.Need-returns-3 Inv-loop μ-loop
 returns-3 c = search needs
@@ -91,26 +79,22 @@ lines-spec =
     Inv-loop
     μ-loop
     fresh-requires
-    off-requires
     loop-holds
     add-number
     end-of-line-requires
-    bad-line-requires
     same-length
     same-length-2
-    same-length-3
     returns
     between-requires
-    line-requires
-    bad-line-requires-2
+    parse-requires
+    is-bad-requires
+    same-length-3
     same-length-4
-    same-length-5
-    same-length-6
     returns-2
+    run-requires
     add-at
     loop-less
     loop-again
-    same-length-7
-    same-length-8
-    same-length-9
+    same-length-5
+    same-length-6
     returns-3)

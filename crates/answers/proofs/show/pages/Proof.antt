@@ -1,16 +1,14 @@
 -- `answers::show::pages` is safe and ends: each page is passed once. Assumes nothing.
-use mathlib.Core.Path.{_≡_}
 use Prim.Native.Nat.{_-_, _≤_}
-use lib.ListN.{length}
 use borrow.Author.Needs.{needs}
 use Rattle.answers.proofs.show.pages.Statement.{statement}
 use Rattle.answers.proofs.show.pages.Tie as tie
 
 abbrev Inv-loop : tie.InvT-loop
-Inv-loop out₀ filled f code «data» chip count n₀ k₀ out n k = (k ≤ count) × (length out ≡ length out₀)
+Inv-loop f code «data» chip k₀ k-end k = k ≤ k-end
 
 abbrev μ-loop : tie.MeasureT-loop
-μ-loop out₀ filled f code «data» chip count n₀ k₀ out n k = count - k
+μ-loop f code «data» chip k₀ k-end k = k-end - k
 
 small-requires : tie.Need-small-requires Inv-loop μ-loop
 small-requires c κs = search needs
@@ -36,9 +34,6 @@ loop-less c = search needs
 loop-again : tie.Need-loop-again Inv-loop μ-loop
 loop-again c = search needs
 
-same-length : tie.Need-same-length Inv-loop μ-loop
-same-length c = search needs
-
 returns : tie.Need-returns Inv-loop μ-loop
 returns c = search needs
 
@@ -56,5 +51,4 @@ pages-spec =
     add-k
     loop-less
     loop-again
-    same-length
     returns)

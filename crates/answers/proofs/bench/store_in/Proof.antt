@@ -1,10 +1,10 @@
--- `answers::bench::store` is safe and ends: the bytes lie in the flash. Assumes nothing.
+-- `answers::bench::store_in` is safe and ends: the bytes lie in the flash. Assumes nothing.
 use mathlib.Core.Path.{_≡_}
 use Prim.Native.Nat.{_+_, _-_, _≤_}
 use lib.ListN.{length}
 use borrow.Author.Needs.{needs}
-use Rattle.answers.proofs.bench.store.Statement.{statement}
-use Rattle.answers.proofs.bench.store.Tie as tie
+use Rattle.answers.proofs.bench.store_in.Statement.{statement}
+use Rattle.answers.proofs.bench.store_in.Tie as tie
 
 abbrev Inv-loop : tie.InvT-loop
 Inv-loop flash₀ at row count k₀ flash k = (k ≤ count) × (at + count ≤ length flash₀) × (length flash ≡ length flash₀)
@@ -12,11 +12,11 @@ Inv-loop flash₀ at row count k₀ flash k = (k ≤ count) × (at + count ≤ l
 abbrev μ-loop : tie.MeasureT-loop
 μ-loop flash₀ at row count k₀ flash k = count - k
 
-row-size-requires : tie.Need-row-size-requires Inv-loop μ-loop
-row-size-requires c κs = search needs
-
 returns : tie.Need-returns Inv-loop μ-loop
 returns c = search needs
+
+row-size-requires : tie.Need-row-size-requires Inv-loop μ-loop
+row-size-requires c κs = search needs
 
 sub-if2 : tie.Need-sub-if2 Inv-loop μ-loop
 sub-if2 c = search needs
@@ -51,14 +51,14 @@ same-length c = search needs
 returns-3 : tie.Need-returns-3 Inv-loop μ-loop
 returns-3 c = search needs
 
-pub store-spec : {M : Type 1} → statement M
-store-spec =
+pub store-in-spec : {M : Type 1} → statement M
+store-in-spec =
     tie.close
     (tie.spec
     Inv-loop
     μ-loop
-    row-size-requires
     returns
+    row-size-requires
     sub-if2
     returns-2
     loop-holds

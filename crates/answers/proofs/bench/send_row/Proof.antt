@@ -1,16 +1,16 @@
--- `answers::bench::send` is safe and ends: each byte is sent once. Assumes nothing.
+-- `answers::bench::send_row` is safe and ends: each byte is sent once. Assumes nothing.
 use mathlib.Core.Path.{_≡_}
 use Prim.Native.Nat.{_-_, _≤_}
 use lib.ListN.{length}
 use borrow.Author.Needs.{needs}
-use Rattle.answers.proofs.bench.send.Statement.{statement}
-use Rattle.answers.proofs.bench.send.Tie as tie
+use Rattle.answers.proofs.bench.send_row.Statement.{statement}
+use Rattle.answers.proofs.bench.send_row.Tie as tie
 
 abbrev Inv-loop : tie.InvT-loop
-Inv-loop row frame₀ code₀ data₀ out₀ filled s₀ count k₀ frame code «data» out s k = (k ≤ count) × (length frame ≡ 260) × (length code ≡ length code₀) × (length «data» ≡ length data₀) × (length out ≡ length out₀)
+Inv-loop row frame₀ code₀ data₀ s₀ count k₀ frame code «data» s k = (k ≤ count) × (length frame ≡ 260) × (length code ≡ length code₀) × (length «data» ≡ length data₀)
 
 abbrev μ-loop : tie.MeasureT-loop
-μ-loop row frame₀ code₀ data₀ out₀ filled s₀ count k₀ frame code «data» out s k = count - k
+μ-loop row frame₀ code₀ data₀ s₀ count k₀ frame code «data» s k = count - k
 
 row-size-requires : tie.Need-row-size-requires Inv-loop μ-loop
 row-size-requires c κs = search needs
@@ -39,14 +39,11 @@ same-length c = search needs
 same-length-2 : tie.Need-same-length-2 Inv-loop μ-loop
 same-length-2 c = search needs
 
-same-length-3 : tie.Need-same-length-3 Inv-loop μ-loop
-same-length-3 c = search needs
-
 returns : tie.Need-returns Inv-loop μ-loop
 returns c = search needs
 
-pub send-spec : {M : Type 1} → statement M
-send-spec =
+pub send-row-spec : {M : Type 1} → statement M
+send-row-spec =
     tie.close
     (tie.spec
     Inv-loop
@@ -60,5 +57,4 @@ send-spec =
     loop-again
     same-length
     same-length-2
-    same-length-3
     returns)

@@ -8,8 +8,11 @@ use rules::Phase;
 use rules::Refusal;
 use rules::Task;
 ghost use mathlib.Core.Path.{_≡_};
-ghost use Rattle.rules.specs.Chip.{small};
-ghost use Rattle.rules.specs.StandIn.{Outcome, Powered, byteCall, powerOn};
+ghost use Rattle.rules.specs.declared.Phase.the-variants.{Silent};
+ghost use Rattle.rules.specs.declared.Task.the-variants.{Idle};
+ghost use Rattle.rules.specs.Chip.{Memory, small};
+ghost use Rattle.rules.specs.Options.{freshOptions};
+ghost use Rattle.rules.specs.StandIn.{Outcome, Powered, byteCall, powerOn, rest};
 ghost use Rattle.flash.specs.Lent.{memory};
 ghost use Rattle.standin.specs.View.{came};
 ghost use Rattle.standin.specs.Shows.{shows, poweredPhase};
@@ -27,7 +30,9 @@ pub struct Answered {
 }
 
 // A device that has not been powered on.
-pub fn off() -> Device {
+pub fn off() -> Device
+    ensures { λ r. ⌜ ((m : Memory) → shows r m ≡ rest Silent Idle freshOptions m) ⌝ }
+{
     Device {
         core: Core {
             phase: Phase::Silent,

@@ -1,13 +1,13 @@
 // The chip and its power: what the lines do to them.
-use crate::hex;
-use crate::output;
-use crate::part;
 use device::Core;
 use rules::Call;
 use rules::Flash;
 use rules::Options;
 use rules::Phase;
 use rules::Task;
+use text::hex;
+use text::output;
+use text::part;
 ghost use mathlib.Core.Path.{_≡_};
 ghost use lib.ListN.{length};
 
@@ -62,24 +62,11 @@ pub fn power_on(b: Bench) -> Bench {
     at(true, Phase::Mode, o)
 }
 
-// The bytes of a row, stored in a flash from `at`, if they all lie in it.
-fn store_in(flash: &mut [u8], at: usize, row: &[u8]) {
-    if at > flash.len() {
-        return;
-    }
-    let count = hex::row_size(row);
-    if count > flash.len() - at {
-        return;
-    }
-    for k in 0..count {
-        flash[at + k] = hex::row_byte(row, k);
-    }
-}
-
-fn store_to(f: Flash, code: &mut [u8], data: &mut [u8], at: usize, row: &[u8]) {
+// The bytes of a row, stored in one flash from `at`, if they all lie in it.
+fn store_to(f: Flash, code: &mut [u8], data: &mut [u8], at: usize, row: &[u8]) -> usize {
     match f {
-        Flash::Code => store_in(code, at, row),
-        Flash::Data => store_in(data, at, row),
+        Flash::Code => hex::store(code, at, row),
+        Flash::Data => hex::store(data, at, row),
     }
 }
 

@@ -1,10 +1,11 @@
 // What a line of the script says.
-use crate::hex;
-use crate::hex::Number;
-use crate::part;
 use rules::Block;
 use rules::Flash;
 use rules::Options;
+use text::hex;
+use text::hex::Number;
+use text::part;
+use text::part::starts_with;
 
 pub enum Line {
     Bad,
@@ -20,10 +21,6 @@ pub enum Line {
 pub const STORED: usize = 11;
 
 pub const SENT: usize = 2;
-
-fn starts_with(text: &[u8], s: &[u8]) -> bool {
-    flash::bytes::same_bytes(part::between(text, 0, s.len()), s)
-}
 
 // Where so many bytes go that are stored from an address, if they all lie in the flash.
 fn place(f: Flash, size: usize, address: u32, count: usize) -> Line {

@@ -3,14 +3,12 @@ use crate::bench;
 use crate::bench::Bench;
 use crate::line;
 use crate::line::Line;
-use crate::part;
 use crate::show;
+use text::lines::bad_line;
+use text::lines::line_length;
+use text::part;
 ghost use mathlib.Core.Path.{_≡_};
-ghost use Prim.Native.Nat.{_≤_};
 ghost use lib.ListN.{length};
-
-// The most bytes of a script that are run.
-const LIMIT: usize = 1_048_576;
 
 fn is_bad(said: Line) -> bool {
     match said {
@@ -42,28 +40,6 @@ fn run(
     }
 }
 
-// Where the line from `from` on ends: at its LF, or where there is none to be run, at the end of the text.
-fn end_of_line(text: &[u8], from: usize) -> usize
-    requires { ⌜ from ≤ length (now text) ⌝ }
-    ensures { λ r. ⌜ (from ≤ r) × (r ≤ length (now (text .entry))) ⌝ }
-{
-    for i in from..text.len() {
-        if i == LIMIT {
-            return text.len();
-        }
-        if text[i] == b'\n' {
-            return i;
-        }
-    }
-    text.len()
-}
-
-fn bad_line(number: usize) {
-    io::write_all(1, b"bad line ");
-    io::print_decimal(1, number as u64);
-    io::write_all(1, b"\n");
-}
-
 // The lines of a script; the number of the bad one that ended it, or 0.
 fn lines(text: &[u8], frame: &mut [u8; 260], code: &mut [u8], data: &mut [u8]) -> usize
     requires { ⌜ length (now frame) ≡ 260 ⌝ }
@@ -73,7 +49,7 @@ fn lines(text: &[u8], frame: &mut [u8; 260], code: &mut [u8], data: &mut [u8]) -
     let mut number: usize = 0;
     while at < text.len() {
         number += 1;
-        let end = end_of_line(text, at);
+        let end = at + line_length(text, at);
         if end == text.len() {
             return number;
         }
@@ -93,8 +69,5 @@ pub fn script(text: &[u8]) {
     let mut code = [0u8; 32768];
     let mut data = [0u8; 2048];
     let mut frame = [0u8; 260];
-    let bad = lines(text, &mut frame, &mut code, &mut data);
-    if bad > 0 {
-        bad_line(bad);
-    }
+    bad_line(lines(text, &mut frame, &mut code, &mut data));
 }

@@ -1,10 +1,10 @@
 // What `?` writes: the phase, the options as stored, and the pages that are not blank.
 use crate::bench::Bench;
-use crate::output;
 use rules::Block;
 use rules::Flash;
 use rules::Options;
 use rules::Phase;
+use text::output;
 
 fn phase_line(p: Phase) -> bool {
     match p {

@@ -2,9 +2,11 @@
 use Prim.Native.Nat.{ℕ, zero, suc, _+_, _*_}
 use mathlib.Core.Bool.{Bool, true, false, cond}
 use mathlib.Core.List.{List, [], _∷_, _++_}
-use lib.ListN.{length}
+use lib.Dec.{eqb}
 use Rattle.rules.specs.declared.Chip.{Chip}
 use Rattle.rules.specs.declared.Player.{Player}
+use Rattle.rules.specs.declared.Stage.{Stage}
+use Rattle.rules.specs.declared.Stage.the-variants.{New, Ready, Erased, Opened, Summed, Page, Paged, Over}
 use Rattle.rules.specs.declared.Phase.{Phase}
 use Rattle.rules.specs.declared.Phase.the-variants.{Mode, Speed, Ident, Command, Silent}
 use Rattle.rules.specs.declared.Task.{Task}
@@ -56,10 +58,19 @@ takenIn chip s j =
     let a = absorbed chip s (j .player) (j .heard) (j .sums) in
     joining (a .player) (j .state) (a .sums) (j .frame) (j .reply) (j .heard)
 
+-- A TURN, from one reply taken in to the next: the frame is given and carried over, and its answer taken in
+unfoldable pub turned : Line → Chip → List ℕ → ℕ → Joined → Joined
+turned line chip s k j =
+    let sent = emitted chip s (j .player) in
+    takenIn chip s (carried line chip k (sent .player) (sent .bytes) j)
+
 -- a run: whether it ended, and where it stands
 pub record Ran : Type 0 where
   pub ended : Bool
   pub joined : Joined
+
+abbrev pub ran : Bool → Joined → Ran
+ran e j = record { ended = e; joined = j }
 
 abbrev pub none : List ℕ → Bool
 none [] = true
@@ -67,13 +78,33 @@ none (b ∷ bs) = false
 
 -- so many player calls: it ends at the one that gives no frame; k frames went before
 unfoldable pub runFrom : Line → Chip → List ℕ → ℕ → ℕ → Joined → Ran
-runFrom line chip s k zero j = record { ended = false; joined = j }
+runFrom line chip s k zero j = ran false j
 runFrom line chip s k (suc calls) j =
-    let t = takenIn chip s j in
-    let sent = emitted chip s (t .player) in
-    let end : Ran = record { ended = true; joined = t } in
-    let later = runFrom line chip s (k + 1) calls (carried line chip k (sent .player) (sent .bytes) t) in
-    cond (none (sent .bytes)) end later
+    let later = runFrom line chip s (k + 1) calls (turned line chip s k j) in
+    cond (none (emitted chip s (j .player) .bytes)) (ran true j) later
+
+-- between two steps: at the beginning of one, or finished or stopped
+unfoldable pub betweenIn : Stage → ℕ → Bool
+betweenIn New at = false
+betweenIn Ready at = eqb at 0
+betweenIn Erased at = false
+betweenIn Opened at = false
+betweenIn Summed at = false
+betweenIn Page at = false
+betweenIn Paged at = false
+betweenIn Over at = true
+
+unfoldable pub between : Player → Bool
+unfolding betweenIn
+between p = betweenIn (p .stage) (p .at)
+
+-- so many turns: a step ends at the one after which the player is between two steps
+unfoldable pub stepFrom : Line → Chip → List ℕ → ℕ → ℕ → Joined → Ran
+stepFrom line chip s k zero j = ran false j
+stepFrom line chip s k (suc turns) j =
+    let t = turned line chip s k j in
+    let later = stepFrom line chip s (k + 1) turns t in
+    cond (between (t .player)) (ran true t) later
 
 -- the greatest frame count of a step, and of so many steps from step i on
 unfoldable pub mostFor : Kind → Step → ℕ
@@ -93,12 +124,16 @@ mostFrom chip s i (suc left) = mostFrames (stepAt chip s i) + mostFrom chip s (i
 abbrev pub mostCalls : Chip → List ℕ → ℕ
 mostCalls chip s = 1 + mostFrom chip s 0 (count s)
 
--- THE RUN of a sheet: a new player and that stand-in, with these buffers
+-- THE RUN of a sheet: a new player and that stand-in, with these buffers; its first call reads no reply
 abbrev pub joinedAtStart : State → List ℕ → List ℕ → List ℕ → Joined
 joinedAtStart state frame reply sums = joining newPlayer state sums frame reply []
 
 unfoldable pub run : Line → Chip → List ℕ → Joined → Ran
-run line chip s j = runFrom line chip s 0 (mostCalls chip s) j
+run line chip s j = runFrom line chip s 0 (mostCalls chip s) (takenIn chip s j)
+
+-- THE RUN OF A STEP, by a player at its beginning; k frames went before
+unfoldable pub stepRun : Line → Chip → List ℕ → ℕ → Joined → Ran
+stepRun line chip s k j = stepFrom line chip s k (mostFrames (stepAt chip s (j .player .step))) j
 
 -- a stand-in that waits for a command: phase Command, no command begun, nothing half received
 unfoldable pub waitsIn : Phase → Task → List ℕ → Bool

@@ -25,7 +25,7 @@ const ENTRY_SIZE: usize = 12;
 // ---- bytes, low byte first ----
 
 // The byte at i; past the end of a sheet every byte reads as 0, so that no field has to be there.
-fn byte_at(s: &[u8], i: usize) -> u8
+pub fn byte_at(s: &[u8], i: usize) -> u8
     ensures { λ r. ⌜ r ≡ byteAt (now (s .entry)) i ⌝ }
 {
     if i < s.len() {

@@ -62,7 +62,7 @@ fn end_of(frame: &[u8; 260]) -> u8
 }
 
 // The end byte that is due: 03h for the last data frame, 17h where more follow.
-fn end_due(last: bool) -> u8
+pub fn end_due(last: bool) -> u8
     ensures { λ r. ⌜ r ≡ endDue last ⌝ }
 {
     if last { 0x03 } else { 0x17 }

@@ -21,8 +21,11 @@ loop-holds c = search needs
 add-number : tie.Need-add-number Inv-loop μ-loop
 add-number c = search needs
 
-end-of-line-requires : tie.Need-end-of-line-requires Inv-loop μ-loop
-end-of-line-requires c κs = search needs
+line-length-requires : tie.Need-line-length-requires Inv-loop μ-loop
+line-length-requires c κs = search needs
+
+add-end : tie.Need-add-end Inv-loop μ-loop
+add-end c = search needs
 
 same-length : tie.Need-same-length Inv-loop μ-loop
 same-length c = search needs
@@ -81,7 +84,8 @@ lines-spec =
     fresh-requires
     loop-holds
     add-number
-    end-of-line-requires
+    line-length-requires
+    add-end
     same-length
     same-length-2
     returns

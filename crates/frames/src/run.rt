@@ -1,0 +1,87 @@
+// A whole script: its lines one after the other, up to its end or the first bad one.
+use crate::hand;
+use crate::hand::Hand;
+use crate::line;
+use crate::line::Line;
+use text::lines::bad_line;
+use text::lines::line_length;
+use text::part;
+ghost use mathlib.Core.Path.{_≡_};
+ghost use lib.ListN.{length};
+
+// Room for the bytes that the longest script can say, at three bytes of text each.
+fn room() -> [u8; 349525]
+    ensures { λ r. ⌜ 349525 ≡ length r ⌝ }
+{
+    [0; 349525]
+}
+
+fn is_bad(said: Line) -> bool {
+    match said {
+        Line::Bad => true,
+        _ => false,
+    }
+}
+
+// What a line does; a bad one does nothing.
+fn run(
+    said: Line,
+    text: &[u8],
+    h: Hand,
+    sheet: &mut [u8],
+    reply: &mut [u8],
+    frame: &mut [u8],
+    sums: &mut [u16],
+) -> Hand {
+    match said {
+        Line::Bad => h,
+        Line::Sheet => hand::add(h, part::rest(text, line::SHEET), sheet),
+        Line::Sums(n) => hand::lend_sums(h, n, sums),
+        Line::Room(n) => hand::lend_room(h, n),
+        Line::Go => {
+            let row = part::rest(text, line::GO);
+            hand::call(hand::begin(h), row, &*sheet, reply, frame, sums)
+        }
+        Line::Reply => {
+            let row = part::rest(text, line::REPLY);
+            hand::call(h, row, &*sheet, reply, frame, sums)
+        }
+    }
+}
+
+// The lines of a script; the number of the bad one that ended it, or 0.
+fn lines(
+    text: &[u8],
+    sheet: &mut [u8],
+    reply: &mut [u8],
+    frame: &mut [u8],
+    sums: &mut [u16],
+) -> usize {
+    let mut h = hand::empty();
+    let mut at: usize = 0;
+    let mut number: usize = 0;
+    while at < text.len() {
+        number += 1;
+        let end = at + line_length(text, at);
+        if end == text.len() {
+            return number;
+        }
+        let line = part::between(text, at, end);
+        let said = line::parse(line, h.begun);
+        if is_bad(said) {
+            return number;
+        }
+        h = run(said, line, h, sheet, reply, frame, sums);
+        at = end + 1;
+    }
+    0
+}
+
+// A whole script, with an empty sheet in hand.
+pub fn script(text: &[u8]) {
+    let mut sheet = room();
+    let mut reply = room();
+    let mut frame = [0u8; 300];
+    let mut sums = [0u16; 64];
+    bad_line(lines(text, &mut sheet, &mut reply, &mut frame, &mut sums));
+}

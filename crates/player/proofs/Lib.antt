@@ -1,0 +1,4 @@
+pub mod Gives
+pub mod Outcomes
+pub mod Refusals
+pub mod Sums

@@ -1,0 +1,37 @@
+-- One outcome: two results that both meet the promise of a player call agree in record, answer, report and both lent buffers. Assumes nothing.
+use mathlib.Core.Path.{_≡_, sym, ap, _∙_}
+use mathlib.Core.List.{List}
+use Prim.Native.Nat.{ℕ}
+use Rattle.rules.specs.declared.Player.{Player}
+use Rattle.rules.specs.Player.{Absorbed, absorbs}
+use Rattle.rules.specs.Player as rules
+use Rattle.player.specs.declared.call.Called.{Called}
+use Rattle.player.specs.Parts.{Gave, gave, came}
+
+-- a player call
+pub one-call : (due : rules.Called) (a b : Called) (x y : List ℕ) (u v : List ℕ)
+    → came a x u ≡ due
+    → came b y v ≡ due
+    → (a .player ≡ b .player) × (a .next ≡ b .next) × (a .report ≡ b .report) × (x ≡ y) × (u ≡ v)
+one-call due a b x y u v p q =
+    let e = p ∙ sym q in (
+      ap (λ (c : rules.Called). c .player) e,
+      ap (λ (c : rules.Called). c .call) e,
+      ap (λ (c : rules.Called). c .report) e,
+      ap (λ (c : rules.Called). c .frame) e,
+      ap (λ (c : rules.Called). c .sums) e,
+    )
+
+-- a reply taken in
+pub one-taking : (due : Absorbed) (a b : Player) (u v : List ℕ) → absorbs a u ≡ due → absorbs b v ≡ due → (a ≡ b) × (u ≡ v)
+one-taking due a b u v p q =
+    let e = p ∙ sym q in (ap (λ (c : Absorbed). c .player) e, ap (λ (c : Absorbed). c .sums) e)
+
+-- a frame given
+pub one-giving : (due : Gave) (a b : Player) (m n : ℕ) (x y : List ℕ)
+    → gave a m x ≡ due
+    → gave b n y ≡ due
+    → (a ≡ b) × (m ≡ n) × (x ≡ y)
+one-giving due a b m n x y p q =
+    let e = p ∙ sym q in
+    (ap (λ (c : Gave). c .player) e, ap (λ (c : Gave). c .sent) e, ap (λ (c : Gave). c .frame) e)

@@ -1,0 +1,78 @@
+// A player call: the reply is taken in, the next frame given.
+use crate::giving::emit;
+use crate::place::is_lost;
+use crate::report::report;
+use crate::taking::absorb_in;
+use rules::Chip;
+use rules::Next;
+use rules::Player;
+use rules::Refusal;
+use rules::Report;
+use rules::Verdict;
+use sheet::judge::verdict;
+use sheet::read::count;
+use sheet::read::step_at;
+ghost use mathlib.Core.Path.{_≡_};
+ghost use mathlib.Core.Bool.{cond};
+ghost use lib.Dec.{eqb};
+ghost use Rattle.rules.specs.declared.Next.the-variants.{Refused, Frame, End};
+ghost use Rattle.rules.specs.Player.{reportOf, called};
+ghost use Rattle.player.specs.Parts.{came};
+
+// The record after a call, what the call answered, and the report.
+pub struct Called {
+    pub player: Player,
+    pub next: Next,
+    pub report: Report,
+}
+
+// Refused: the record stands.
+fn stands(p: Player, refusal: Refusal) -> Called
+    ensures { λ r. ⌜ r ≡ record { player = p; next = Refused refusal; report = reportOf p } ⌝ }
+{
+    Called {
+        player: p,
+        next: Next::Refused(refusal),
+        report: report(p),
+    }
+}
+
+fn next_of(sent: usize) -> Next
+    ensures { λ r. ⌜ r ≡ cond (eqb sent 0) End (Frame sent) ⌝ }
+{
+    if sent == 0 {
+        return Next::End;
+    }
+    Next::Frame(sent)
+}
+
+// A player call: refused by J, P1 or P2, in that order; else the next frame or the end.
+pub fn next(
+    chip: Chip,
+    sheet: &[u8],
+    p: Player,
+    reply: &[u8],
+    frame: &mut [u8],
+    sums: &mut [u16],
+) -> Called
+    ensures { λ r. ⌜ came r (now (frame .exit)) (now (sums .exit)) ≡ called chip (now (sheet .entry)) p (now (reply .entry)) (now (frame .entry)) (now (sums .entry)) ⌝ }
+{
+    if let Verdict::Refused(refusal) = verdict(chip, sheet, sums.len()) {
+        return stands(p, refusal);
+    }
+    if frame.len() < 260 {
+        return stands(p, Refusal::P1);
+    }
+    let t = step_at(chip, sheet, p.step);
+    if is_lost(count(sheet), t, p) {
+        return stands(p, Refusal::P2);
+    }
+    let taken = absorb_in(chip, sheet, t, p, reply, sums);
+    let given = emit(chip, sheet, taken, frame);
+    let player = given.player;
+    Called {
+        player,
+        next: next_of(given.sent),
+        report: report(player),
+    }
+}

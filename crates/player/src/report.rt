@@ -1,0 +1,45 @@
+// The report: of an unfinished play 06h and the counts so far.
+use rules::Player;
+use rules::Report;
+use rules::Stage;
+use rules::Status;
+ghost use mathlib.Core.Path.{_≡_};
+ghost use Rattle.rules.specs.Player.{countsOf, reportOf};
+
+fn counts_of(p: Player) -> Report
+    ensures { λ r. ⌜ r ≡ countsOf p ⌝ }
+{
+    Report {
+        status: Status::Byte(0x06),
+        steps: p.step,
+        frames: p.frames,
+        pieces: 0,
+    }
+}
+
+pub fn report(p: Player) -> Report
+    ensures { λ r. ⌜ r ≡ reportOf p ⌝ }
+{
+    let stage = p.stage;
+    let status = p.status;
+    match stage {
+        Stage::New => Report {
+            status: Status::Byte(0x06),
+            steps: 0,
+            frames: 0,
+            pieces: 0,
+        },
+        Stage::Ready => counts_of(p),
+        Stage::Erased => counts_of(p),
+        Stage::Opened => counts_of(p),
+        Stage::Summed => counts_of(p),
+        Stage::Page => counts_of(p),
+        Stage::Paged => counts_of(p),
+        Stage::Over => Report {
+            status,
+            steps: p.step,
+            frames: p.frames,
+            pieces: p.pieces,
+        },
+    }
+}

@@ -1,0 +1,31 @@
+-- `replies::data_reply` meets its contract: the pair of two 06h is judged alike, compared or decoded. Assumes nothing.
+use mathlib.Core.Path.{sym, _∙_}
+use Rattle.replies.proofs.Framing.{data-alike}
+use borrow.Author.Needs.{needs}
+use Rattle.replies.proofs.data_reply.Statement.{statement}
+use Rattle.replies.proofs.data_reply.Tie as tie
+
+slice-aggregate-same-bytes : tie.Need-slice-aggregate-same-bytes
+slice-aggregate-same-bytes c = search needs
+
+same-bytes-requires : tie.Need-same-bytes-requires
+same-bytes-requires c κs = search needs
+
+returns : tie.Need-returns
+returns c = sym (data-alike _ (sym (c .before .same-bytes .ensures) ∙ c .if1 .taken))
+
+decode-pair-requires : tie.Need-decode-pair-requires
+decode-pair-requires c κs = search needs
+
+returns-2 : tie.Need-returns-2
+returns-2 c = search needs
+
+pub data-reply-spec : {M : Type 1} → statement M
+data-reply-spec =
+    tie.close
+    (tie.spec
+    slice-aggregate-same-bytes
+    same-bytes-requires
+    returns
+    decode-pair-requires
+    returns-2)

@@ -1,0 +1,115 @@
+-- `replies::is_framed` meets its contract: the tests one after the other. Assumes nothing.
+use mathlib.Core.Path.{_≡_, sym}
+use Prim.Native.Nat.{_+_, _-_}
+use native.Mathlib.Omega.{arith}
+use lib.ListN.{take, drop}
+use Rattle.rules.specs.Chip.{byteAt, total}
+use Rattle.replies.proofs.Framing.{other-length, other-start, other-len, other-sum, by-end}
+use borrow.Author.Needs.{needs}
+use Rattle.replies.proofs.is_framed.Statement.{statement}
+use Rattle.replies.proofs.is_framed.Tie as tie
+
+add-if1 : tie.Need-add-if1
+add-if1 c = search needs
+
+returns : tie.Need-returns
+returns c =
+    let a = c .before .before .args in
+    sym (other-length (a .n) (a .r .now) (c .if1 .taken))
+
+shared-slice-read-if2 : tie.Need-shared-slice-read-if2
+shared-slice-read-if2 c = search needs
+
+returns-2 : tie.Need-returns-2
+returns-2 c =
+    let x = c .before .before in
+    let a = x .before .before .args in
+    sym (other-start (a .n) (a .r .now) (x .if1 .left) (c .if2 .taken))
+
+shared-slice-read-if3 : tie.Need-shared-slice-read-if3
+shared-slice-read-if3 c = search needs
+
+cast-if3 : tie.Need-cast-if3
+cast-if3 c = omega (arith, c .shared-slice-known3 .given 1 .fits)
+
+returns-3 : tie.Need-returns-3
+returns-3 c =
+    let x = c .before .before .before .before in
+    let a = x .before .before .args in
+    sym (other-len (a .n) (a .r .now) (x .if1 .left) (c .before .before .if2 .left) (c .if3 .taken))
+
+shared-slice-read-sum-of : tie.Need-shared-slice-read-sum-of
+shared-slice-read-sum-of c = search needs
+
+add-sum-of : tie.Need-add-sum-of
+add-sum-of c = search needs
+
+sub-sum-of : tie.Need-sub-sum-of
+sub-sum-of c = search needs
+
+part-sum-of-start : tie.Need-part-sum-of-start
+part-sum-of-start c = search needs
+
+part-sum-of-end : tie.Need-part-sum-of-end
+part-sum-of-end c = search needs
+
+sum-of-requires : tie.Need-sum-of-requires
+sum-of-requires c κs = search needs
+
+add-if4 : tie.Need-add-if4
+add-if4 c = search needs
+
+shared-slice-read-if4 : tie.Need-shared-slice-read-if4
+shared-slice-read-if4 c = search needs
+
+returns-4 : tie.Need-returns-4
+returns-4 c =
+    let y = c .before .before .before .before .before in
+    let x = y .before .before .before .before in
+    let a = x .before .before .args in
+    let s = c .before .before .sum-of in
+    let k : a .n + 2 - 2 ≡ a .n = omega arith in
+    sym
+    (other-sum (a .n) (a .r .now) (x .if1 .left) (y .before .before .if2 .left) (y .if3 .left) (s .result) (rw k at (s .ensures .0)) (s .ensures .1)
+    (c .before .shared-slice-known5 .given (a .n + 2) .fits) (c .if4 .taken))
+
+add-result : tie.Need-add-result
+add-result c = search needs
+
+shared-slice-read-result : tie.Need-shared-slice-read-result
+shared-slice-read-result c = search needs
+
+returns-5 : tie.Need-returns-5
+returns-5 c =
+    let y = c .before .before .before .before .before .before in
+    let x = y .before .before .before .before in
+    let a = x .before .before .args in
+    let s = c .before .before .before .sum-of in
+    let k : a .n + 2 - 2 ≡ a .n = omega arith in
+    sym
+    (by-end (a .n) (a .r .now) (x .if1 .left) (y .before .before .if2 .left) (y .if3 .left) (s .result) (rw k at (s .ensures .0)) (s .ensures .1)
+    (c .before .before .shared-slice-known5 .given (a .n + 2) .fits) (c .before .if4 .left))
+
+pub is-framed-spec : {M : Type 1} → statement M
+is-framed-spec =
+    tie.close
+    (tie.spec
+    add-if1
+    returns
+    shared-slice-read-if2
+    returns-2
+    shared-slice-read-if3
+    cast-if3
+    returns-3
+    shared-slice-read-sum-of
+    add-sum-of
+    sub-sum-of
+    part-sum-of-start
+    part-sum-of-end
+    sum-of-requires
+    add-if4
+    shared-slice-read-if4
+    returns-4
+    add-result
+    shared-slice-read-result
+    returns-5)

@@ -1,0 +1,6 @@
+// Text lines: what the programs over scripts share, to read a line and to write one.
+pub mod hex;
+pub mod lines;
+pub mod output;
+pub mod part;
+pub mod told;

@@ -1,20 +1,25 @@
 -- A whole frame of the kind awaited, fed byte by byte from nothing received: only its last byte answers, and what it comes to is what the
 -- frame comes to. Assumes nothing.
 use mathlib.Core.Path.{_≡_, refl, sym, ap, _∙_}
-use mathlib.Core.Bool.{Bool, true, false, cond, _&&_, false≢true}
+use mathlib.Core.Bool.{Bool, true, false, _&&_}
 use mathlib.Core.List.{List, [], _∷_, _++_, append-assoc, append-nil}
-use Prim.Native.Nat.{ℕ, zero, suc, _+_, _<_, _≤_}
+use Prim.Native.Nat.{ℕ, zero, suc, _+_, _≤_}
+use native.Mathlib.Nat.{zero-add}
 use native.Mathlib.Omega.{arith}
 use lib.Dec.{leb, eqb}
-use lib.ListN.{length, getD, replicate, length-append, List·getD-append}
+use lib.ListN.{length, replicate, length-append, List·getD-append}
 use borrow.Author.Tests.{eqb-true, leb-true, ne-eqb}
 use Rattle.rules.specs.declared.Chip.{Chip}
+use Rattle.rules.specs.declared.Flash.the-variants.{Code, Data}
+use Rattle.rules.specs.declared.Call.the-variants.{Answer}
+use Rattle.rules.specs.Chip.{fits, over}
 use Rattle.rules.specs.Frame.{lenOf, frameSize, whole}
 use Rattle.rules.specs.Command.{phaseNumber}
-use Rattle.rules.specs.StandIn.{State, Out, Fed, rest, holding, startOf, taskNow, onFrame, receive, step, feed}
+use Rattle.rules.specs.StandIn.{State, Out, rest, holding, startOf, taskNow, onFrame, step, feed}
 use Rattle.rules.specs.Run.{joined}
 use Rattle.flash.proofs.Choices.{both}
-use Rattle.standin.proofs.Receives.{begun, more, frame-step}
+use Rattle.standin.specs.Feeding.{feeding, feedFrom, fedInto}
+use Rattle.standin.proofs.Receives.{begun, more, frame-step, taken}
 
 -- a beginning of a whole frame is none
 beginning : (p q : List ℕ) → (length q ≡ 0 → ⊥) → whole (p ++ q) ≡ true → whole p ≡ false
@@ -64,27 +69,60 @@ module _ (chip : Chip) (s : State) (listens : phaseNumber (s .phase) ≡ 4 → �
   unfolding feed
   feed-none t = refl
 
-  -- the rest of a frame
-  feed-rest : (g : List ℕ) (b : ℕ) (bs : List ℕ) → (length g ≡ 0 → ⊥) → whole (g ++ (b ∷ bs)) ≡ true
-      → feed chip (with g) (b ∷ bs) ≡ record { state = done (g ++ (b ∷ bs)) .state; answers = told (length bs) (done (g ++ (b ∷ bs)) .answer) }
-  feed-rest g b [] n w = rw (feed-one (with g) b [], completes g b n w, feed-none)
-  feed-rest g b (c ∷ bs) n w =
-      let h = g ++ (b ∷ []) in
-      let e : h ++ (c ∷ bs) ≡ g ++ (b ∷ c ∷ bs) = append-assoc g (b ∷ []) (c ∷ bs) in
-      let v : whole (h ++ (c ∷ bs)) ≡ true = ap whole e ∙ w in
-      let short = goes-on g b n (beginning h (c ∷ bs) (λ z. omega arith) v) in
-      let later = feed-rest h c bs (λ z. omega (arith, length-append g (b ∷ []))) v in
-      rw (feed-one (with g) b (c ∷ bs), short, later, e)
+  -- what holds of the last byte of a whole frame, and of a byte before it where it holds of the bytes behind, holds of the frame
+  module _ (f : List ℕ) (w : whole f ≡ true) (P : List ℕ → ℕ → List ℕ → Type 0)
+      (last : (g : List ℕ) (b : ℕ) → step chip (with g) b ≡ done f → P g b [])
+      (quiet : (g : List ℕ) (b c : ℕ) (bs : List ℕ) → step chip (with g) b ≡ holding s (g ++ (b ∷ [])) → P (g ++ (b ∷ [])) c bs → P g b (c ∷ bs)) where
+    by-rest : (g : List ℕ) (b : ℕ) (bs : List ℕ) → (length g ≡ 0 → ⊥) → g ++ (b ∷ bs) ≡ f → P g b bs
+    by-rest g b [] n e = last g b (completes g b n (ap whole e ∙ w) ∙ ap done e)
+    by-rest g b (c ∷ bs) n e =
+        let h = g ++ (b ∷ []) in
+        let q : h ++ (c ∷ bs) ≡ f = append-assoc g (b ∷ []) (c ∷ bs) ∙ e in
+        let short = goes-on g b n (beginning h (c ∷ bs) (λ z. omega arith) (ap whole q ∙ w)) in
+        quiet g b c bs short (by-rest h c bs (λ z. omega (arith, length-append g (b ∷ []))) q)
+
+    by-frame : (l : ℕ) (bs : List ℕ) → let b = startOf (taskNow chip (s .phase) (s .task)) in b ∷ l ∷ bs ≡ f → P [] b (l ∷ bs)
+    by-frame l bs e =
+        let b = startOf (taskNow chip (s .phase) (s .task)) in
+        let first : step chip (with []) b ≡ holding s (b ∷ []) =
+        sym (frame-step chip (with []) b listens moded) ∙ sym (begun chip (with []) b refl) in
+        quiet [] b l bs first (by-rest (b ∷ []) l bs (λ z. omega arith) e)
 
   -- A WHOLE FRAME
   pub feed-frame : s .got ≡ [] → (l : ℕ) (bs : List ℕ) → let f = startOf (taskNow chip (s .phase) (s .task)) ∷ l ∷ bs in
       whole f ≡ true
       → feed chip s f ≡ record { state = done f .state; answers = told (suc (length bs)) (done f .answer) }
   feed-frame none l bs w =
-      let b = startOf (taskNow chip (s .phase) (s .task)) in
-      let first : step chip s b ≡ holding s (b ∷ []) =
-      sym (frame-step chip s b listens moded) ∙ ap (λ (g : List ℕ). receive chip s g b) none ∙ sym (begun chip s b refl) in
-      rw (feed-one s b (l ∷ bs), first, feed-rest (b ∷ []) l bs (λ z. omega arith) w)
+      let f = startOf (taskNow chip (s .phase) (s .task)) ∷ l ∷ bs in
+      ap (λ (g : List ℕ). feed chip (with g) f) none
+      ∙ by-frame f w
+      (λ g b cs. feed chip (with g) (b ∷ cs) ≡ record { state = done f .state; answers = told (length cs) (done f .answer) })
+      (λ g b e. rw (feed-one (with g) b [], e, feed-none))
+      (λ g b c cs e later. rw (feed-one (with g) b (c ∷ cs), e, later))
+      l bs refl
+
+  -- a byte fed into a buffer with room for any answer
+  fed-one : (out : List ℕ) → fits chip (s .memory) Code ≡ true → fits chip (s .memory) Data ≡ true → 16 ≤ length out
+      → (g : List ℕ) (b : ℕ) (bs : List ℕ) (n : ℕ) (o : Out) → step chip (with g) b ≡ o
+      → feedFrom chip (with g) out 0 n (b ∷ bs) ≡ feedFrom chip (o .state) (over (o .answer) out) (length (o .answer)) (n + 1) bs
+  unfolding feedFrom
+  fed-one out code «data» room g b bs n o e =
+      rw (← taken chip (with g) b out code «data» room, e, zero-add (length (o .answer)))
+
+  pub fed-frame : s .got ≡ [] → (l : ℕ) (bs : List ℕ) → let f = startOf (taskNow chip (s .phase) (s .task)) ∷ l ∷ bs in
+      whole f ≡ true
+      → (out : List ℕ) → fits chip (s .memory) Code ≡ true → fits chip (s .memory) Data ≡ true → 16 ≤ length out
+      → fedInto chip s out f ≡ feeding (done f .state) (Answer (length (done f .answer))) (length f) (over (done f .answer) out)
+  unfolding feedFrom over
+  fed-frame none l bs w out code «data» room =
+      let f = startOf (taskNow chip (s .phase) (s .task)) ∷ l ∷ bs in
+      let one = fed-one out code «data» room in
+      ap (λ (g : List ℕ). fedInto chip (with g) out f) none
+      ∙ by-frame f w
+      (λ g b cs. (n k : ℕ) → k ≡ n + suc (length cs) → feedFrom chip (with g) out 0 n (b ∷ cs) ≡ feeding (done f .state) (Answer (length (done f .answer))) k (over (done f .answer) out))
+      (λ g b e n k q. one g b [] n (done f) e ∙ rw q)
+      (λ g b c cs e later n k q. one g b (c ∷ cs) n (holding s (g ++ (b ∷ []))) e ∙ later (n + 1) k (omega arith))
+      l bs refl 0 (length f) (omega arith)
 
 -- only the last byte answers: all bytes answered are those of the frame
 pub joined-told : (n : ℕ) (a : List ℕ) → joined (replicate n [] ++ (a ∷ [])) ≡ a

@@ -21,7 +21,7 @@ pub struct Taken {
 }
 
 // How many bytes of a frame the buffer holds: a count that no buffer holds, or at or past its LEN's end, is none.
-fn held(have: usize, frame: &[u8; 260]) -> usize
+pub fn held(have: usize, frame: &[u8; 260]) -> usize
     ensures { λ r. ⌜ (r ≡ heldOf have (now (frame .entry))) × (r < 260) ⌝ }
 {
     if have < 2 {

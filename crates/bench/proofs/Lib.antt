@@ -1,0 +1,9 @@
+pub mod Calls
+pub mod Judged
+pub mod Means
+pub mod Outcomes
+pub mod Starting
+pub mod Through
+pub mod Turning
+pub mod Waiting
+pub mod Within

@@ -1,0 +1,40 @@
+-- What has to be for a turn, for a step and for a whole sheet. Assumes nothing.
+use Prim.Native.Nat.{ℕ, _≤_}
+use mathlib.Core.Path.{_≡_}
+use mathlib.Core.Bool.{true, false}
+use mathlib.Core.List.{List}
+use lib.ListN.{length}
+use Rattle.rules.specs.declared.Chip.{Chip}
+use Rattle.rules.specs.declared.Stage.the-variants.{New}
+use Rattle.rules.specs.declared.Verdict.the-variants.{Accepted}
+use Rattle.rules.specs.Sheet.{verdict}
+use Rattle.rules.specs.Player.{lost}
+use Rattle.rules.specs.Run.{Joined, waits}
+use Rattle.turns.specs.Turns.{Sized, Fit, Begins, Framed}
+
+-- the sheet is accepted, and the buffers have room
+pub record Rooms (chip : Chip) (s : List ℕ) (j : Joined) : Type 0 where
+  pub accepted : verdict chip s (length (j .sums)) ≡ Accepted
+  pub frame : 260 ≤ length (j .frame)
+  pub reply : 16 ≤ length (j .reply)
+
+-- a turn: the player is in the sheet, and the frame that it sends is a whole one of the kind awaited
+pub record Turns (chip : Chip) (s : List ℕ) (j : Joined) : Type 0 where
+  pub rooms : Rooms chip s j
+  pub found : lost chip s (j .player) ≡ false
+  pub fit : Fit chip (j .state .memory)
+  pub framed : Framed chip s j
+
+-- a step: the player is at its beginning
+pub record Starts (chip : Chip) (s : List ℕ) (j : Joined) : Type 0 where
+  pub rooms : Rooms chip s j
+  pub sized : Sized chip
+  pub begins : Begins chip s j
+
+-- a sheet: the player is a new one, and the stand-in waits for a command
+pub record Opens (chip : Chip) (s : List ℕ) (j : Joined) : Type 0 where
+  pub rooms : Rooms chip s j
+  pub sized : Sized chip
+  pub fresh : j .player .stage ≡ New
+  pub waiting : waits chip (j .state) ≡ true
+  pub fit : Fit chip (j .state .memory)

@@ -1,0 +1,124 @@
+// A whole sheet, step by step.
+use super::Answer;
+use super::Played;
+use super::Rig;
+use super::checks;
+use super::checks::Lent;
+use super::step::step_through;
+use device::Core;
+use player::taking::absorb;
+use player::taking::new_player;
+use rules::Chip;
+use rules::Player;
+use rules::Stage;
+use rules::Verdict;
+use sheet::read::count;
+ghost use mathlib.Core.Path.{_≡_};
+ghost use lib.ListN.{length};
+ghost use Rattle.rules.specs.Chip.{small};
+ghost use Rattle.rules.specs.Player.{newPlayer};
+ghost use Rattle.rules.specs.Run.{clean, run};
+ghost use Rattle.bench.specs.Plays.{rigged, isOver, outcome, sheetPlayed};
+ghost use Rattle.bench.specs.Turn.{Opens};
+
+fn is_over(p: Player) -> bool
+    ensures { λ r. ⌜ r ≡ isOver (p .stage) ⌝ }
+{
+    let stage = p.stage;
+    match stage {
+        Stage::New => false,
+        Stage::Ready => false,
+        Stage::Erased => false,
+        Stage::Opened => false,
+        Stage::Summed => false,
+        Stage::Page => false,
+        Stage::Paged => false,
+        Stage::Over => true,
+    }
+}
+
+// All steps of an accepted sheet, up to the first that fails.
+fn steps_through(
+    chip: Chip,
+    sheet: &[u8],
+    r: Rig,
+    held: &mut [u8; 260],
+    code: &mut [u8],
+    data: &mut [u8],
+    reply: &mut [u8],
+    frame: &mut [u8],
+    sums: &mut [u16],
+) -> Rig
+    requires { ⌜ (length (now held) ≡ 260) × Opens chip (now sheet) (rigged r (now held) (now code) (now «data») (now reply) (now frame) (now sums)) ⌝ }
+    ensures { λ _. ⌜ length (now (held .exit)) ≡ 260 ⌝ }
+    ensures { λ q. ⌜ rigged q (now (held .exit)) (now (code .exit)) (now («data» .exit)) (now (reply .exit)) (now (frame .exit)) (now (sums .exit)) ≡ run clean chip (now (sheet .entry)) (rigged r (now (held .entry)) (now (code .entry)) (now («data» .entry)) (now (reply .entry)) (now (frame .entry)) (now (sums .entry))) .joined ⌝ }
+{
+    let new = r.player;
+    let core = r.core;
+    // the first call of a play reads no reply
+    let begun = absorb(chip, sheet, new, &reply[0..0], sums);
+    let mut rig = Rig {
+        player: begun,
+        core,
+        heard: r.heard,
+    };
+    let n = count(sheet);
+    let mut i = 0;
+    while i < n {
+        let now = rig.player;
+        if is_over(now) {
+            return rig;
+        }
+        rig = step_through(chip, sheet, rig, held, code, data, reply, frame, sums);
+        i += 1;
+    }
+    rig
+}
+
+// A new player plays the whole sheet. Where it is refused, all stands.
+pub fn play(
+    sheet: &[u8],
+    c: Core,
+    held: &mut [u8; 260],
+    code: &mut [u8],
+    data: &mut [u8],
+    reply: &mut [u8],
+    frame: &mut [u8],
+    sums: &mut [u16],
+) -> Played
+    requires { ⌜ length (now held) ≡ 260 ⌝ }
+    ensures { λ _. ⌜ length (now (held .exit)) ≡ 260 ⌝ }
+    ensures { λ q. ⌜ outcome (q .answer) (rigged (q .rig) (now (held .exit)) (now (code .exit)) (now («data» .exit)) (now (reply .exit)) (now (frame .exit)) (now (sums .exit))) ≡ sheetPlayed small (now (sheet .entry)) (rigged (record { player = newPlayer; core = c; heard = 0 }) (now (held .entry)) (now (code .entry)) (now («data» .entry)) (now (reply .entry)) (now (frame .entry)) (now (sums .entry))) ⌝ }
+{
+    let chip = flash::finder::small();
+    let p = new_player();
+    let rig = Rig {
+        player: p,
+        core: c,
+        heard: 0,
+    };
+    let lent = Lent {
+        code: code.len(),
+        data: data.len(),
+        reply: reply.len(),
+        frame: frame.len(),
+        sums: sums.len(),
+    };
+    if let Verdict::Refused(refusal) = checks::refusal(chip, sheet, p, lent) {
+        return Played {
+            rig,
+            answer: Answer::Refused(refusal),
+        };
+    }
+    if !checks::waits(chip, c, &*held) {
+        return Played {
+            rig,
+            answer: Answer::Busy,
+        };
+    }
+    let end = steps_through(chip, sheet, rig, held, code, data, reply, frame, sums);
+    Played {
+        rig: end,
+        answer: Answer::Played,
+    }
+}

@@ -1,0 +1,10 @@
+pub mod Frames
+pub mod Kept
+pub mod Meant
+pub mod Opened
+pub mod PowerOn
+pub mod Run
+pub mod Sent
+pub mod Sizes
+pub mod Steps
+pub mod Turns

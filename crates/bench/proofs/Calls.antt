@@ -26,10 +26,11 @@ use Rattle.rules.specs.Run.{clean, Joined, run, stepRun, mostFrames, waits}
 use Rattle.flash.proofs.Choices.{both}
 use Rattle.moves.proofs.Stands.{ready-stands, allowed-call}
 use Rattle.turns.specs.Turns.{Sized, Fit, Begins}
-use Rattle.bench.specs.declared.checks.Lent.{Lent}
 use Rattle.bench.specs.declared.Answer.the-variants.{Refused, NotAtStep, Busy, Played}
-use Rattle.bench.specs.Plays.{joinedVerdict, isReady, startsStep, Outcome, outcome, lengths, judged, stepPlayed, sheetPlayed}
-use Rattle.bench.specs.Turn.{Rooms, Starts, Opens}
+use Rattle.line.specs.Rigs.{joinedVerdict, isReady, startsStep}
+use Rattle.bench.specs.Plays.{Outcome, outcome, lengths, judged, stepPlayed, sheetPlayed}
+use Rattle.line.specs.Turn.{Rooms}
+use Rattle.bench.specs.Starts.{Starts, Opens}
 
 -- ---- outcomes ----
 

@@ -1,9 +1,5 @@
 pub mod Calls
-pub mod Judged
 pub mod Means
 pub mod Outcomes
-pub mod Starting
 pub mod Through
-pub mod Turning
-pub mod Waiting
 pub mod Within

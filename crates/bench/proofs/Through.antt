@@ -27,7 +27,8 @@ use Rattle.turns.proofs.Run as steps
 use Rattle.turns.proofs.Sizes.{few-from}
 use Rattle.turns.proofs.Turns.{turn-as}
 use Rattle.bench.specs.Plays.{isOver}
-use Rattle.bench.specs.Turn.{Rooms, Starts, Opens}
+use Rattle.line.specs.Turn.{Rooms}
+use Rattle.bench.specs.Starts.{Starts, Opens}
 
 -- over a clean line it does not matter how many frames went before
 any-turn : (chip : Chip) (s : List ℕ) (k c : ℕ) (j : Joined) → stepFrom clean chip s c k j ≡ stepFrom clean chip s 0 k j

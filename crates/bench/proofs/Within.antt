@@ -13,7 +13,8 @@ use Rattle.rules.specs.Run.{clean, Joined, Ran, ran, turned, between, stepFrom,
 use Rattle.turns.specs.Turns.{Sized, StepEnds}
 use Rattle.turns.proofs.Turns.{Mid, Turned, Ends, Goes, mid-frame, mid-found, turn, turn-as}
 use Rattle.turns.proofs.Steps.{begin}
-use Rattle.bench.specs.Turn.{Rooms, Turns, Starts}
+use Rattle.line.specs.Turn.{Rooms, Turns}
+use Rattle.bench.specs.Starts.{Starts}
 
 -- the states of the step that was begun at `j`
 abbrev In : Chip → List ℕ → Joined → ℕ → Joined → Type 0

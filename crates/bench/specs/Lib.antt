@@ -1,2 +1,2 @@
 pub mod Plays
-pub mod Turn
+pub mod Starts

@@ -1,19 +1,9 @@
-// The player and the stand-in joined by a line that neither loses nor alters a byte: frame by frame, byte by byte.
-use device::Core;
-use rules::Player;
+// The player and the stand-in joined: one step of a sheet, and the whole of it, turn by turn.
+use line::Rig;
 use rules::Refusal;
 
-pub mod checks;
 pub mod step;
-mod turn;
 pub mod whole;
-
-// Player and stand-in between two turns, and how many bytes of the reply buffer are the last answer.
-pub struct Rig {
-    pub player: Player,
-    pub core: Core,
-    pub heard: usize,
-}
 
 // The answer of a joined call: refused by 01's number; the player is not at the beginning of a step; the stand-in does not wait for
 // a command; or played to the end.

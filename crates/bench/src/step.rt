@@ -1,11 +1,11 @@
 // One step of a sheet, turn by turn.
 use super::Answer;
 use super::Played;
-use super::Rig;
-use super::checks;
-use super::checks::Lent;
-use super::turn;
 use device::Core;
+use line::Rig;
+use line::checks;
+use line::checks::Lent;
+use line::turn;
 use rules::Chip;
 use rules::Player;
 use rules::Verdict;
@@ -14,8 +14,9 @@ ghost use mathlib.Core.Path.{_≡_};
 ghost use lib.ListN.{length};
 ghost use Rattle.rules.specs.Chip.{small};
 ghost use Rattle.rules.specs.Run.{clean, stepRun};
-ghost use Rattle.bench.specs.Plays.{rigged, outcome, stepPlayed};
-ghost use Rattle.bench.specs.Turn.{Starts};
+ghost use Rattle.line.specs.Rigs.{rigged};
+ghost use Rattle.bench.specs.Plays.{outcome, stepPlayed};
+ghost use Rattle.bench.specs.Starts.{Starts};
 
 // From the beginning of a step to the beginning of the next, or the end.
 pub(crate) fn step_through(

@@ -1,11 +1,11 @@
 // A whole sheet, step by step.
 use super::Answer;
 use super::Played;
-use super::Rig;
-use super::checks;
-use super::checks::Lent;
 use super::step::step_through;
 use device::Core;
+use line::Rig;
+use line::checks;
+use line::checks::Lent;
 use player::taking::absorb;
 use player::taking::new_player;
 use rules::Chip;
@@ -18,8 +18,9 @@ ghost use lib.ListN.{length};
 ghost use Rattle.rules.specs.Chip.{small};
 ghost use Rattle.rules.specs.Player.{newPlayer};
 ghost use Rattle.rules.specs.Run.{clean, run};
-ghost use Rattle.bench.specs.Plays.{rigged, isOver, outcome, sheetPlayed};
-ghost use Rattle.bench.specs.Turn.{Opens};
+ghost use Rattle.line.specs.Rigs.{rigged};
+ghost use Rattle.bench.specs.Plays.{isOver, outcome, sheetPlayed};
+ghost use Rattle.bench.specs.Starts.{Opens};
 
 fn is_over(p: Player) -> bool
     ensures { λ r. ⌜ r ≡ isOver (p .stage) ⌝ }

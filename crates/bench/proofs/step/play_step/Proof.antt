@@ -5,7 +5,8 @@ use Rattle.rules.specs.declared.Chip.{Chip}
 use Rattle.turns.specs.Turns.{Sized}
 use Rattle.turns.proofs.Run.{small-sized}
 use Rattle.rules.specs.Run.{Joined}
-use Rattle.bench.specs.Plays.{rigged, outcome, stepPlayed}
+use Rattle.line.specs.Rigs.{rigged}
+use Rattle.bench.specs.Plays.{outcome, stepPlayed}
 use Rattle.bench.specs.declared.Answer.the-variants.{Played}
 use Rattle.bench.proofs.Calls.{step-refused, step-not-begun, step-busy, step-played, starts}
 use borrow.Author.Needs.{needs}

@@ -5,8 +5,8 @@ use native.Mathlib.Omega.{arith}
 use lib.ListN.{length}
 use borrow.Author.Needs.{needs}
 use Rattle.rules.specs.Run.{mostFrames}
-use Rattle.bench.specs.Plays.{rigged}
-use Rattle.bench.specs.Turn.{Rooms}
+use Rattle.line.specs.Rigs.{rigged}
+use Rattle.line.specs.Turn.{Rooms}
 use Rattle.bench.proofs.Within.{Within, starting, turnable, ends-here, goes-on}
 use Rattle.bench.proofs.step.step_through.Statement.{statement}
 use Rattle.bench.proofs.step.step_through.Tie as tie

@@ -6,8 +6,8 @@ use lib.ListN.{length}
 use borrow.Author.Needs.{needs}
 use Rattle.rules.specs.Run.{clean, Joined, Ran, takenIn, runFrom, mostCalls, run}
 use Rattle.rules.specs.Sheet.{count}
-use Rattle.bench.specs.Plays.{rigged}
-use Rattle.bench.specs.Turn.{Rooms}
+use Rattle.line.specs.Rigs.{rigged}
+use Rattle.line.specs.Turn.{Rooms}
 use Rattle.bench.proofs.Through.{Through, first-call, run-as, opening, told-over, all-done, may-start, step-done}
 use Rattle.bench.proofs.whole.steps_through.Statement.{statement}
 use Rattle.bench.proofs.whole.steps_through.Tie as tie

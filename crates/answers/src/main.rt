@@ -1,8 +1,8 @@
 // The stand-in by itself: reads a script of text lines from standard input and writes what the chip answers.
-mod bench;
+mod chip;
 mod echo;
-mod line;
 mod run;
+mod script_line;
 mod show;
 
 use text::lines;

@@ -1,14 +1,23 @@
 // A whole script: its lines one after the other, up to its end or the first bad one.
-use crate::bench;
-use crate::bench::Bench;
-use crate::line;
-use crate::line::Line;
+use crate::chip;
+use crate::chip::State;
+use crate::script_line;
+use crate::script_line::Line;
 use crate::show;
+use text::in_hand;
+use text::in_hand::InHand;
 use text::lines::bad_line;
 use text::lines::line_length;
+use text::lines::room_for_bytes;
 use text::part;
 ghost use mathlib.Core.Path.{_≡_};
 ghost use lib.ListN.{length};
+
+// What stands between two lines.
+struct Between {
+    chip: State,
+    sheet: InHand,
+}
 
 fn is_bad(said: Line) -> bool {
     match said {
@@ -17,34 +26,91 @@ fn is_bad(said: Line) -> bool {
     }
 }
 
-// What a line does; a bad one does nothing.
-fn run(
+// What a line does to the chip; one of a sheet, and a bad one, do nothing.
+fn act(
     said: Line,
     text: &[u8],
-    b: Bench,
+    chip: State,
+    sheet: &[u8],
     frame: &mut [u8; 260],
     code: &mut [u8],
     data: &mut [u8],
-) -> Bench
+) -> State
     requires { ⌜ length (now frame) ≡ 260 ⌝ }
     ensures { λ _. ⌜ length (now (frame .exit)) ≡ 260 ⌝ }
 {
     match said {
-        Line::Bad => b,
-        Line::Fresh => bench::fresh(code, data),
-        Line::Stored(o) => bench::off(o),
-        Line::Store(f, at) => bench::store(b, f, at, part::rest(text, line::STORED), code, data),
-        Line::PowerOn => bench::power_on(b),
-        Line::Bytes => bench::send(b, text, part::rest(text, line::SENT), frame, code, data),
-        Line::Show => show::all(b, &*code, &*data),
+        Line::Bad => chip,
+        Line::Fresh => chip::fresh(code, data),
+        Line::Stored(o) => chip::off(o),
+        Line::Store(f, at) => chip::store(
+            chip,
+            f,
+            at,
+            part::rest(text, script_line::STORED),
+            code,
+            data,
+        ),
+        Line::PowerOn => chip::power_on(chip),
+        Line::Bytes => chip::send(
+            chip,
+            text,
+            part::rest(text, script_line::SENT),
+            frame,
+            code,
+            data,
+        ),
+        Line::Show => show::all(chip, &*code, &*data),
+        Line::Sheet => chip,
+        Line::Play => chip::play(chip, sheet, frame, code, data),
+    }
+}
+
+// A line is run: it adds to the sheet in hand or closes it, and does what it says.
+fn run(
+    said: Line,
+    text: &[u8],
+    b: Between,
+    sheet: &mut [u8],
+    frame: &mut [u8; 260],
+    code: &mut [u8],
+    data: &mut [u8],
+) -> Between
+    requires { ⌜ length (now frame) ≡ 260 ⌝ }
+    ensures { λ _. ⌜ length (now (frame .exit)) ≡ 260 ⌝ }
+{
+    let before = b.sheet;
+    let held = in_hand::after(before, text, sheet);
+    let chip = b.chip;
+    let after = act(
+        said,
+        text,
+        chip,
+        in_hand::bytes(held, &*sheet),
+        frame,
+        code,
+        data,
+    );
+    Between {
+        chip: after,
+        sheet: held,
     }
 }
 
 // The lines of a script; the number of the bad one that ended it, or 0.
-fn lines(text: &[u8], frame: &mut [u8; 260], code: &mut [u8], data: &mut [u8]) -> usize
+fn lines(
+    text: &[u8],
+    sheet: &mut [u8],
+    frame: &mut [u8; 260],
+    code: &mut [u8],
+    data: &mut [u8],
+) -> usize
     requires { ⌜ length (now frame) ≡ 260 ⌝ }
 {
-    let mut b = bench::fresh(code, data);
+    let mut b = Between {
+        chip: chip::fresh(code, data),
+        sheet: in_hand::empty(),
+    };
     let mut at: usize = 0;
     let mut number: usize = 0;
     while at < text.len() {
@@ -54,20 +120,21 @@ fn lines(text: &[u8], frame: &mut [u8; 260], code: &mut [u8], data: &mut [u8]) -
             return number;
         }
         let line = part::between(text, at, end);
-        let said = line::parse(line, code.len(), data.len());
+        let said = script_line::parse(line, code.len(), data.len());
         if is_bad(said) {
             return number;
         }
-        b = run(said, line, b, frame, code, data);
+        b = run(said, line, b, sheet, frame, code, data);
         at = end + 1;
     }
     0
 }
 
-// A whole script, on a fresh chip with the power off.
+// A whole script, on a fresh chip with the power off and with an empty sheet in hand.
 pub fn script(text: &[u8]) {
+    let mut sheet = room_for_bytes();
     let mut code = [0u8; 32768];
     let mut data = [0u8; 2048];
     let mut frame = [0u8; 260];
-    bad_line(lines(text, &mut frame, &mut code, &mut data));
+    bad_line(lines(text, &mut sheet, &mut frame, &mut code, &mut data));
 }

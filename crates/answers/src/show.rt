@@ -1,5 +1,5 @@
 // What `?` writes: the phase, the options as stored, and the pages that are not blank.
-use crate::bench::Bench;
+use crate::chip::State;
 use rules::Block;
 use rules::Flash;
 use rules::Options;
@@ -17,11 +17,11 @@ fn phase_line(p: Phase) -> bool {
 }
 
 // With the power off the chip has no phase.
-fn power_line(b: Bench) -> bool {
-    if !b.on {
+fn power_line(chip: State) -> bool {
+    if !chip.on {
         return io::write_all(1, b"phase Off\n");
     }
-    let c = b.core;
+    let c = chip.core;
     let p = c.phase;
     phase_line(p)
 }
@@ -72,12 +72,12 @@ fn pages<'a>(f: Flash, code: &'a [u8], data: &'a [u8]) {
     }
 }
 
-pub fn all<'a>(b: Bench, code: &'a [u8], data: &'a [u8]) -> Bench {
-    power_line(b);
-    let c = b.core;
+pub fn all<'a>(chip: State, code: &'a [u8], data: &'a [u8]) -> State {
+    power_line(chip);
+    let c = chip.core;
     let o = c.options;
     options_line(o);
     pages(Flash::Code, code, data);
     pages(Flash::Data, code, data);
-    b
+    chip
 }

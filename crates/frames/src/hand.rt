@@ -2,14 +2,15 @@
 use crate::show;
 use rules::Player;
 use text::hex;
+use text::in_hand;
+use text::in_hand::InHand;
 use text::part;
 ghost use Prim.Native.Nat.{_≤_};
 
-// Between two lines: how many bytes the sheet has, and how many entries and bytes are lent. The sheet is open from its
-// first line up to a line of another kind. Until a play has begun the record is that of a player before its first call.
+// Between two lines: the sheet, and how many entries and bytes are lent. Until a play has begun the record is that of a
+// player before its first call.
 pub struct Hand {
-    pub open: bool,
-    pub size: usize,
+    pub sheet: InHand,
     pub sums: usize,
     pub room: usize,
     pub begun: bool,
@@ -19,24 +20,12 @@ pub struct Hand {
 // Before the first line.
 pub fn empty() -> Hand {
     Hand {
-        open: false,
-        size: 0,
+        sheet: in_hand::empty(),
         sums: 64,
         room: 260,
         begun: false,
         player: player::taking::new_player(),
     }
-}
-
-// The bytes of a row are added to the sheet in hand, or begin a new one.
-pub fn add(h: Hand, row: &[u8], sheet: &mut [u8]) -> Hand {
-    let mut h = h;
-    if !h.open {
-        h.size = 0;
-    }
-    h.open = true;
-    h.size = hex::store(sheet, h.size, row);
-    h
 }
 
 fn clear(sums: &mut [u16]) {
@@ -49,7 +38,6 @@ fn clear(sums: &mut [u16]) {
 pub fn lend_sums(h: Hand, n: usize, sums: &mut [u16]) -> Hand {
     clear(sums);
     let mut h = h;
-    h.open = false;
     h.sums = n;
     h
 }
@@ -57,7 +45,6 @@ pub fn lend_sums(h: Hand, n: usize, sums: &mut [u16]) -> Hand {
 // A frame buffer of so many bytes is lent from now on.
 pub fn lend_room(h: Hand, n: usize) -> Hand {
     let mut h = h;
-    h.open = false;
     h.room = n;
     h
 }
@@ -103,10 +90,9 @@ pub fn call(
     let room = least(h.room, frame.len());
     let entries = least(h.sums, sums.len());
     let p = h.player;
-    h.open = false;
     h.player = next(
         p,
-        part::between(sheet, 0, h.size),
+        sheet,
         part::between(reply, 0, end),
         &mut frame[0..room],
         &mut sums[0..entries],

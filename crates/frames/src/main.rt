@@ -1,8 +1,8 @@
 // The player by itself: reads a script of text lines from standard input, replies among them, and writes the frames that the player gives.
 mod decimal;
 mod hand;
-mod line;
 mod run;
+mod script_line;
 mod show;
 
 use text::lines;

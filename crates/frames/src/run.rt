@@ -1,20 +1,13 @@
 // A whole script: its lines one after the other, up to its end or the first bad one.
 use crate::hand;
 use crate::hand::Hand;
-use crate::line;
-use crate::line::Line;
+use crate::script_line;
+use crate::script_line::Line;
+use text::in_hand;
 use text::lines::bad_line;
 use text::lines::line_length;
+use text::lines::room_for_bytes;
 use text::part;
-ghost use mathlib.Core.Path.{_≡_};
-ghost use lib.ListN.{length};
-
-// Room for the bytes that the longest script can say, at three bytes of text each.
-fn room() -> [u8; 349525]
-    ensures { λ r. ⌜ 349525 ≡ length r ⌝ }
-{
-    [0; 349525]
-}
 
 fn is_bad(said: Line) -> bool {
     match said {
@@ -23,7 +16,33 @@ fn is_bad(said: Line) -> bool {
     }
 }
 
-// What a line does; a bad one does nothing.
+// What a line does with the bytes of the sheet in hand; one of a sheet, and a bad one, do nothing more.
+fn act(
+    said: Line,
+    text: &[u8],
+    h: Hand,
+    sheet: &[u8],
+    reply: &mut [u8],
+    frame: &mut [u8],
+    sums: &mut [u16],
+) -> Hand {
+    match said {
+        Line::Bad => h,
+        Line::Sheet => h,
+        Line::Sums(n) => hand::lend_sums(h, n, sums),
+        Line::Room(n) => hand::lend_room(h, n),
+        Line::Go => {
+            let row = part::rest(text, script_line::GO);
+            hand::call(hand::begin(h), row, sheet, reply, frame, sums)
+        }
+        Line::Reply => {
+            let row = part::rest(text, script_line::REPLY);
+            hand::call(h, row, sheet, reply, frame, sums)
+        }
+    }
+}
+
+// A line is run: it adds to the sheet in hand or closes it, and does what it says.
 fn run(
     said: Line,
     text: &[u8],
@@ -33,20 +52,19 @@ fn run(
     frame: &mut [u8],
     sums: &mut [u16],
 ) -> Hand {
-    match said {
-        Line::Bad => h,
-        Line::Sheet => hand::add(h, part::rest(text, line::SHEET), sheet),
-        Line::Sums(n) => hand::lend_sums(h, n, sums),
-        Line::Room(n) => hand::lend_room(h, n),
-        Line::Go => {
-            let row = part::rest(text, line::GO);
-            hand::call(hand::begin(h), row, &*sheet, reply, frame, sums)
-        }
-        Line::Reply => {
-            let row = part::rest(text, line::REPLY);
-            hand::call(h, row, &*sheet, reply, frame, sums)
-        }
-    }
+    let mut h = h;
+    let before = h.sheet;
+    let held = in_hand::after(before, text, sheet);
+    h.sheet = held;
+    act(
+        said,
+        text,
+        h,
+        in_hand::bytes(held, &*sheet),
+        reply,
+        frame,
+        sums,
+    )
 }
 
 // The lines of a script; the number of the bad one that ended it, or 0.
@@ -67,7 +85,7 @@ fn lines(
             return number;
         }
         let line = part::between(text, at, end);
-        let said = line::parse(line, h.begun);
+        let said = script_line::parse(line, h.begun);
         if is_bad(said) {
             return number;
         }
@@ -79,8 +97,8 @@ fn lines(
 
 // A whole script, with an empty sheet in hand.
 pub fn script(text: &[u8]) {
-    let mut sheet = room();
-    let mut reply = room();
+    let mut sheet = room_for_bytes();
+    let mut reply = room_for_bytes();
     let mut frame = [0u8; 300];
     let mut sums = [0u16; 64];
     bad_line(lines(text, &mut sheet, &mut reply, &mut frame, &mut sums));

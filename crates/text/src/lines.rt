@@ -13,6 +13,13 @@ pub fn room() -> [u8; 1048577]
     [0; 1048577]
 }
 
+// Room for the bytes that the longest script can say, at three bytes of text each.
+pub fn room_for_bytes() -> [u8; 349525]
+    ensures { λ r. ⌜ 349525 ≡ length r ⌝ }
+{
+    [0; 349525]
+}
+
 // How long the line from `from` on is, without its LF; where there is none to be run, it is all that is left of the text.
 pub fn line_length(text: &[u8], from: usize) -> usize
     ensures { λ r. ⌜ r ≤ length (now (text .entry)) - from ⌝ }

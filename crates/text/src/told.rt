@@ -1,5 +1,7 @@
-// What a play comes to: its report, or its refusal.
+// What is told of a play: a line for each step and the end, or the refusal.
 use crate::hex;
+use crate::output;
+use rules::Kind;
 use rules::Refusal;
 use rules::Report;
 use rules::Status;
@@ -19,6 +21,38 @@ pub fn status(s: Status) -> bool {
         Status::Byte(b) => status_byte(b),
         Status::L1 => io::write_all(1, b"L1"),
     }
+}
+
+fn name(kind: Kind) -> bool {
+    match kind {
+        Kind::Erase => io::write_all(1, b"erase"),
+        Kind::Write => io::write_all(1, b"write"),
+        Kind::Verify => io::write_all(1, b"verify"),
+        Kind::Sum => io::write_all(1, b"sum"),
+    }
+}
+
+// A space, four digits and the line's end.
+fn word(n: u16) {
+    let mut line = [b'\n'; 6];
+    output::word(&mut line, 0, n);
+    io::write_all(1, &line);
+}
+
+pub fn heading() {
+    io::write_all(1, b"step kind status frames sum\n");
+}
+
+// `3 sum 06 1 5B00`
+pub fn step(n: usize, kind: Kind, s: Status, frames: usize, sum: u16) {
+    number(n);
+    io::write_all(1, b" ");
+    name(kind);
+    io::write_all(1, b" ");
+    status(s);
+    io::write_all(1, b" ");
+    number(frames);
+    word(sum);
 }
 
 // `end SS steps N frames N pieces N`
@@ -54,4 +88,9 @@ pub fn refused(refusal: Refusal) -> bool {
         Refusal::P1 => io::write_all(1, b"refused P1\n"),
         Refusal::P2 => io::write_all(1, b"refused P2\n"),
     }
+}
+
+// For a stand-in that does not wait for a command: the refusal that has no number.
+pub fn busy() {
+    io::write_all(1, b"refused busy\n");
 }

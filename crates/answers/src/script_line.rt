@@ -4,6 +4,7 @@ use rules::Flash;
 use rules::Options;
 use text::hex;
 use text::hex::Number;
+use text::in_hand;
 use text::part;
 use text::part::starts_with;
 
@@ -15,6 +16,8 @@ pub enum Line {
     PowerOn,
     Bytes,
     Show,
+    Sheet,
+    Play,
 }
 
 // Where the bytes begin in a line that stores them, `code AAAAA HH ..`, and in one that sends them, `> HH ..`.
@@ -75,10 +78,10 @@ fn options_line(text: &[u8]) -> Line {
     })
 }
 
-// `> HH HH ..`
-fn bytes_line(text: &[u8]) -> Line {
-    if hex::is_row(part::rest(text, SENT)) {
-        return Line::Bytes;
+// A line that says this, if a row of bytes stands from `from` on.
+fn with_row(said: Line, text: &[u8], from: usize) -> Line {
+    if hex::is_row(part::rest(text, from)) {
+        return said;
     }
     Line::Bad
 }
@@ -86,7 +89,10 @@ fn bytes_line(text: &[u8]) -> Line {
 // A line without its end, for flashes of these sizes.
 pub fn parse(text: &[u8], code_size: usize, data_size: usize) -> Line {
     if starts_with(text, b"> ") {
-        return bytes_line(text);
+        return with_row(Line::Bytes, text, SENT);
+    }
+    if in_hand::begins(text) {
+        return with_row(Line::Sheet, text, in_hand::BYTES);
     }
     if starts_with(text, b"options ") {
         return options_line(text);
@@ -102,6 +108,9 @@ pub fn parse(text: &[u8], code_size: usize, data_size: usize) -> Line {
     }
     if flash::bytes::same_bytes(text, b"?") {
         return Line::Show;
+    }
+    if flash::bytes::same_bytes(text, b"play") {
+        return Line::Play;
     }
     if flash::bytes::same_bytes(text, b"fresh") {
         return Line::Fresh;

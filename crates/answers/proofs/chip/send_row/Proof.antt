@@ -1,10 +1,10 @@
--- `answers::bench::send_row` is safe and ends: each byte is sent once. Assumes nothing.
+-- `answers::chip::send_row` is safe and ends: each byte is sent once. Assumes nothing.
 use mathlib.Core.Path.{_≡_}
 use Prim.Native.Nat.{_-_, _≤_}
 use lib.ListN.{length}
 use borrow.Author.Needs.{needs}
-use Rattle.answers.proofs.bench.send_row.Statement.{statement}
-use Rattle.answers.proofs.bench.send_row.Tie as tie
+use Rattle.answers.proofs.chip.send_row.Statement.{statement}
+use Rattle.answers.proofs.chip.send_row.Tie as tie
 
 abbrev Inv-loop : tie.InvT-loop
 Inv-loop row frame₀ code₀ data₀ s₀ count k₀ frame code «data» s k = (k ≤ count) × (length frame ≡ 260) × (length code ≡ length code₀) × (length «data» ≡ length data₀)

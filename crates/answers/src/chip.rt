@@ -12,7 +12,7 @@ ghost use mathlib.Core.Path.{_≡_};
 ghost use lib.ListN.{length};
 
 // The chip between two lines. Its options are those of the core, with the power off too.
-pub struct Bench {
+pub struct State {
     pub on: bool,
     pub core: Core,
 }
@@ -24,8 +24,8 @@ struct Sent {
 }
 
 // The chip with these options, its power off or just on.
-fn at(on: bool, phase: Phase, o: Options) -> Bench {
-    Bench {
+fn at(on: bool, phase: Phase, o: Options) -> State {
+    State {
         on: on,
         core: Core {
             phase: phase,
@@ -36,26 +36,26 @@ fn at(on: bool, phase: Phase, o: Options) -> Bench {
     }
 }
 
-pub fn off(o: Options) -> Bench {
+pub fn off(o: Options) -> State {
     at(false, Phase::Silent, o)
 }
 
-fn options_of(b: Bench) -> Options {
-    let c = b.core;
+fn options_of(chip: State) -> Options {
+    let c = chip.core;
     c.options
 }
 
 // A fresh chip.
-pub fn fresh(code: &mut [u8], data: &mut [u8]) -> Bench {
+pub fn fresh(code: &mut [u8], data: &mut [u8]) -> State {
     flash::bytes::fill(code, 0xFF);
     flash::bytes::fill(data, 0xFF);
     off(options::fresh())
 }
 
 // A power-on, with options and flash as they stand.
-pub fn power_on(b: Bench) -> Bench {
+pub fn power_on(chip: State) -> State {
     io::write_all(1, b"!\n");
-    let o = options_of(b);
+    let o = options_of(chip);
     if options::ifpr(o) == 0 {
         return at(true, Phase::Silent, o);
     }
@@ -71,9 +71,16 @@ fn store_to(f: Flash, code: &mut [u8], data: &mut [u8], at: usize, row: &[u8]) -
 }
 
 // The bytes of a row stored, and the power off.
-pub fn store(b: Bench, f: Flash, at: usize, row: &[u8], code: &mut [u8], data: &mut [u8]) -> Bench {
+pub fn store(
+    chip: State,
+    f: Flash,
+    at: usize,
+    row: &[u8],
+    code: &mut [u8],
+    data: &mut [u8],
+) -> State {
     store_to(f, code, data, at, row);
-    off(options_of(b))
+    off(options_of(chip))
 }
 
 fn size_of(call: Call) -> usize {
@@ -143,27 +150,46 @@ fn end_line(answered: bool) {
 
 // `> HH HH ..`, written out again, and the line of the answers if there are any. With the power off there is no effect.
 pub fn send(
-    b: Bench,
+    chip: State,
     text: &[u8],
     row: &[u8],
     frame: &mut [u8; 260],
     code: &mut [u8],
     data: &mut [u8],
-) -> Bench
+) -> State
     requires { ⌜ length (now frame) ≡ 260 ⌝ }
     ensures { λ _. ⌜ length (now (frame .exit)) ≡ 260 ⌝ }
 {
     io::write_all(1, text);
     end_line(true);
-    if !b.on {
-        return b;
+    if !chip.on {
+        return chip;
     }
-    let core = b.core;
+    let core = chip.core;
     let s = send_row(core, row, frame, code, data);
     end_line(s.answered);
     let sent = s.core;
-    Bench {
+    State {
         on: true,
         core: sent,
+    }
+}
+
+// The sheet played to the chip as it stands. With the power off it is Silent, and so it does not wait for a command.
+pub fn play(
+    chip: State,
+    sheet: &[u8],
+    frame: &mut [u8; 260],
+    code: &mut [u8],
+    data: &mut [u8],
+) -> State
+    requires { ⌜ length (now frame) ≡ 260 ⌝ }
+    ensures { λ _. ⌜ length (now (frame .exit)) ≡ 260 ⌝ }
+{
+    let c = chip.core;
+    let core = printout::play(sheet, c, frame, code, data);
+    State {
+        on: chip.on,
+        core: core,
     }
 }

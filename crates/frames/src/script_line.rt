@@ -2,6 +2,7 @@
 use crate::decimal;
 use crate::decimal::Number;
 use text::hex;
+use text::in_hand;
 use text::part;
 use text::part::starts_with;
 
@@ -14,9 +15,7 @@ pub enum Line {
     Reply,
 }
 
-// Where the bytes begin in `sheet HH ..`, in `go HH ..` and in `< HH ..`.
-pub const SHEET: usize = 6;
-
+// Where the bytes begin in `go HH ..` and in `< HH ..`.
 pub const GO: usize = 3;
 
 pub const REPLY: usize = 2;
@@ -58,8 +57,8 @@ fn reply_line(text: &[u8]) -> Line {
 
 // A line without its end; a reply is one only where a play has begun.
 pub fn parse(text: &[u8], begun: bool) -> Line {
-    if starts_with(text, b"sheet ") {
-        return with_row(Line::Sheet, text, SHEET);
+    if in_hand::begins(text) {
+        return with_row(Line::Sheet, text, in_hand::BYTES);
     }
     if starts_with(text, b"sums ") {
         return sums_line(text);

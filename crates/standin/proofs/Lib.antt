@@ -1,4 +1,5 @@
 pub mod Begun
+pub mod Gathered
 pub mod Lengths
 pub mod Onward
 pub mod Opens

@@ -3,6 +3,7 @@ use device::Core;
 use rules::Call;
 use rules::Chip;
 use rules::Flash;
+use rules::Phase;
 use rules::Refusal;
 use rules::Task;
 ghost use mathlib.Core.Path.{_≡_};
@@ -13,7 +14,7 @@ ghost use Rattle.rules.specs.Chip.{Memory};
 ghost use Rattle.rules.specs.StandIn.{Outcome, byteCall, receive, answered, received};
 ghost use Rattle.flash.specs.Lent.{memory};
 ghost use Rattle.device.specs.View.{Fits};
-ghost use Rattle.standin.specs.View.{view, came, heldOf};
+ghost use Rattle.standin.specs.View.{view, came, heldOf, Gathers};
 
 pub struct Taken {
     pub core: Core,
@@ -146,4 +147,47 @@ pub fn take(
         };
     }
     receive(chip, c, byte, frame, code, data, reply)
+}
+
+// A byte that only goes on with the frame in hand is put into it, where `take` would refuse nothing: how many bytes are then held; 0 for
+// every other byte, which is not taken. So a long frame is gathered without handing the device about.
+pub fn goes_on(
+    chip: Chip,
+    phase: Phase,
+    have: usize,
+    byte: u8,
+    frame: &mut [u8; 260],
+    code: usize,
+    data: usize,
+    reply: usize,
+) -> usize
+    requires { ⌜ length (now frame) ≡ 260 ⌝ }
+    ensures { λ _. ⌜ length (now (frame .exit)) ≡ 260 ⌝ }
+    ensures { λ r. ⌜ (r ≡ 0 → now (frame .exit) ≡ now (frame .entry)) ⌝ }
+    ensures { λ r. ⌜ ((r ≡ 0 → ⊥) → Gathers chip phase have byte code «data» reply (now (frame .entry)) r (now (frame .exit))) ⌝ }
+{
+    if have < 2 {
+        return 0;
+    }
+    if have >= wire::judge::frame_size(frame[1]) - 1 {
+        return 0;
+    }
+    let number = wire::judge::phase_number(phase);
+    if number == 4 {
+        return 0;
+    }
+    if number == 0 {
+        return 0;
+    }
+    if !flash::finder::has_size(chip, Flash::Code, code) {
+        return 0;
+    }
+    if !flash::finder::has_size(chip, Flash::Data, data) {
+        return 0;
+    }
+    if reply < 16 {
+        return 0;
+    }
+    frame[have] = byte;
+    have + 1
 }

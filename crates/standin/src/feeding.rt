@@ -35,6 +35,22 @@ pub fn feed(
     let mut w = 0;
     let mut i = 0;
     while i < bytes.len() {
+        let phase = core.phase;
+        let held = engine::goes_on(
+            chip,
+            phase,
+            core.have,
+            bytes[i],
+            frame,
+            code.len(),
+            data.len(),
+            answers.len() - w,
+        );
+        if held > 0 {
+            core.have = held;
+            i += 1;
+            continue;
+        }
         let t = engine::take(chip, core, bytes[i], frame, code, data, &mut answers[w..]);
         core = t.core;
         let call = t.call;

@@ -172,11 +172,11 @@ pub fn goes_on(
     if have >= wire::judge::frame_size(frame[1]) - 1 {
         return 0;
     }
-    let number = wire::judge::phase_number(phase);
-    if number == 4 {
+    let told = wire::judge::phase_number(phase);
+    if told == 4 {
         return 0;
     }
-    if number == 0 {
+    if told == 0 {
         return 0;
     }
     if !flash::finder::has_size(chip, Flash::Code, code) {

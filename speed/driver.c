@@ -31,7 +31,7 @@ typedef size engine_fn(const u8 *, size, size, size, u8 *, u8 *, size, u8 *, siz
 typedef size player_fn(const u8 *, size, const u8 *, size, size, size, size, u8 *, size, u16 *, size);
 typedef size play_fn(const u8 *, size, u8 *, u8 *, size, u8 *, size, u8 *, size, u8 *, size, u16 *, size);
 
-engine_fn rattle_engine, rattle_by_value, plain_engine;
+engine_fn rattle_engine, rattle_called, rattle_by_value, plain_engine, plain_called;
 player_fn rattle_player, plain_player;
 play_fn rattle_play, plain_play;
 
@@ -87,12 +87,14 @@ __attribute__((noinline)) static void call_play(struct lent *m, struct run r)
                              sizeof m->reply - (r.less == 3), m->frame, sizeof m->frame - (r.less == 4), m->sums, 64);
 }
 
-enum kind { ENGINE, BY_VALUE, PLAYER, PLAY_ALL };
+enum kind { ENGINE, CALLED, BY_VALUE, PLAYER, PLAY_ALL };
 
 static void choose(enum kind kind, int proved)
 {
     if (kind == ENGINE)
         engine_called = proved ? rattle_engine : plain_engine;
+    if (kind == CALLED)
+        engine_called = proved ? rattle_called : plain_called;
     if (kind == BY_VALUE)
         engine_called = proved ? rattle_by_value : plain_engine;
     if (kind == PLAYER)
@@ -389,6 +391,9 @@ static const struct row rows[] = {
     {"Checksum of a data block", ENGINE, in_checksum, 0},
     {"Erase of a data block", ENGINE, in_erase_data, 0},
     {"Erase of a code block", ENGINE, in_erase_code, 0},
+    {"kept a call: Programming", CALLED, in_data_frames, 0},
+    {"kept a call: Reset", CALLED, in_reset, 0},
+    {"kept a call: Checksum of a data block", CALLED, in_checksum, 0},
     {"by value: Programming", BY_VALUE, in_data_frames, 0},
     {"by value: Reset", BY_VALUE, in_reset, 0},
     {"command frame, 1 step, 2048 bytes", PLAYER, sheet_small_1, 1},
@@ -432,7 +437,7 @@ static void heading(const char *unit)
 
 static void line(const struct row *row, struct run r, double proved, double base)
 {
-    static const char *const unit[] = {"byte", "byte", "call", "play"};
+    static const char *const unit[] = {"byte", "byte", "byte", "call", "play"};
     double n = units(row, r);
     printf("%-42s %-5s %12.2f %12.2f %7.2f\n", row->name, unit[row->kind], proved / n, base / n, proved / base);
 }
@@ -541,7 +546,7 @@ __attribute__((noinline)) static size depth(void)
 
 static void stack(void)
 {
-    static const char *const entry[] = {"engine", "call by value", "player call", "whole play"};
+    static const char *const entry[] = {"engine", "engine, kept a call", "call by value", "player call", "whole play"};
     printf("%-42s %12s %12s\n", "stack, bytes", "proved", "plain");
     for (int i = 0; i < ROWS; i++) {
         size used[2];
@@ -764,8 +769,10 @@ static void compare(void)
     for (int k = 0; k < 4000; k++) {
         struct run r = random_session();
         both("a random session", ENGINE, r);
-        if (k % 8 == 0)
+        if (k % 8 == 0) {
+            both("a random session, kept a call", CALLED, r);
             both("a random session, by value", BY_VALUE, r);
+        }
     }
     for (int k = 0; k < 4000; k++) {
         struct run r = {0, 0, any(60), 1 + any(30), one_in(50) ? any(5) : 0};

@@ -2,7 +2,15 @@
 // It is frozen. It is not changed to suit a ratio; only an answer that is wrong by the document is a reason to touch it.
 //
 // ENGINE, PLAYER or PLAY is defined when it is compiled: each entry stands in an object of its own, so that the compiler has the same freedom
-// as with the proved entries, of which no two that call the engine stand in one archive. No header is used: the kit has none.
+// as with the proved entries. CALLED is ENGINE with the byte call kept a call. No header is used: the kit has none.
+
+#ifdef CALLED
+#define ENGINE
+#define plain_engine plain_called
+#define BYTE_CALL __attribute__((noinline)) static
+#else
+#define BYTE_CALL static
+#endif
 
 typedef unsigned char u8;
 typedef unsigned short u16;
@@ -383,7 +391,7 @@ static int on_data(struct device *d, const u8 *frame, struct lent m, u8 *reply)
 }
 
 // One received byte: how many bytes are answered, or -1 to -3 for D1 to D3.
-static int take(struct device *d, u8 byte, u8 *frame, u8 *code, size code_n, u8 *data, size data_n, u8 *reply, size reply_n)
+BYTE_CALL int take(struct device *d, u8 byte, u8 *frame, u8 *code, size code_n, u8 *data, size data_n, u8 *reply, size reply_n)
 {
     if (code_n != CODE_SIZE)
         return -1;

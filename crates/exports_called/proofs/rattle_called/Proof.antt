@@ -1,0 +1,72 @@
+-- `rattle_called` is safe and ends: each byte is taken once. Assumes nothing.
+use mathlib.Core.Path.{_≡_}
+use Prim.Native.Nat.{_-_, _<_, _≤_}
+use lib.ListN.{length}
+use borrow.Author.Needs.{needs}
+use Rattle.exports_called.proofs.rattle_called.Statement.{statement}
+use Rattle.exports_called.proofs.rattle_called.Tie as tie
+
+abbrev Inv-loop : tie.InvT-loop
+Inv-loop bytes start shown held₀ code₀ data₀ reply₀ chip core₀ sum₀ i₀ i-end held code «data» reply core sum i = (length bytes < 18446744073709551616) × (i ≤ length bytes) × (i-end ≡ length bytes) × (length held ≡ 260) × (length code ≡ length code₀) × (length «data» ≡ length data₀) × (length reply ≡ length reply₀)
+
+abbrev μ-loop : tie.MeasureT-loop
+μ-loop bytes start shown held₀ code₀ data₀ reply₀ chip core₀ sum₀ i₀ i-end held code «data» reply core sum i = length bytes - i
+
+small-requires : tie.Need-small-requires Inv-loop μ-loop
+small-requires c κs = search needs
+
+starting-requires : tie.Need-starting-requires Inv-loop μ-loop
+starting-requires c κs = search needs
+
+loop-holds : tie.Need-loop-holds Inv-loop μ-loop
+loop-holds c = search needs
+
+shared-slice-read-take : tie.Need-shared-slice-read-take Inv-loop μ-loop
+shared-slice-read-take c = search needs
+
+take-requires : tie.Need-take-requires Inv-loop μ-loop
+take-requires c κs = search needs
+
+answered-requires : tie.Need-answered-requires Inv-loop μ-loop
+answered-requires c κs = search needs
+
+add-i : tie.Need-add-i Inv-loop μ-loop
+add-i c = search needs
+
+loop-less : tie.Need-loop-less Inv-loop μ-loop
+loop-less c = search needs
+
+loop-again : tie.Need-loop-again Inv-loop μ-loop
+loop-again c = search needs
+
+same-length : tie.Need-same-length Inv-loop μ-loop
+same-length c = search needs
+
+same-length-2 : tie.Need-same-length-2 Inv-loop μ-loop
+same-length-2 c = search needs
+
+same-length-3 : tie.Need-same-length-3 Inv-loop μ-loop
+same-length-3 c = search needs
+
+returns : tie.Need-returns Inv-loop μ-loop
+returns c = search needs
+
+pub rattle-called-spec : {M : Type 1} → statement M
+rattle-called-spec =
+    tie.close
+    (tie.spec
+    Inv-loop
+    μ-loop
+    small-requires
+    starting-requires
+    loop-holds
+    shared-slice-read-take
+    take-requires
+    answered-requires
+    add-i
+    loop-less
+    loop-again
+    same-length
+    same-length-2
+    same-length-3
+    returns)

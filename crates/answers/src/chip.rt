@@ -8,8 +8,6 @@ use rules::Task;
 use text::hex;
 use text::output;
 use text::part;
-ghost use mathlib.Core.Path.{_≡_};
-ghost use lib.ListN.{length};
 
 // The chip between two lines. Its options are those of the core, with the power off too.
 pub struct State {
@@ -102,14 +100,11 @@ fn answer(reply: &[u8], size: usize, answered: bool) {
 }
 
 // One byte to the chip; what it answers is written.
-fn send_byte(s: Sent, byte: u8, frame: &mut [u8; 260], code: &mut [u8], data: &mut [u8]) -> Sent
-    requires { ⌜ length (now frame) ≡ 260 ⌝ }
-    ensures { λ _. ⌜ length (now (frame .exit)) ≡ 260 ⌝ }
-{
+fn send_byte(s: Sent, byte: u8, frame: &mut [u8; 260], code: &mut [u8], data: &mut [u8]) -> Sent {
     let mut reply = [0u8; 16];
     let chip = flash::finder::small();
     let c = s.core;
-    let t = standin::engine::take(chip, c, byte, frame, code, data, &mut reply);
+    let t = engine::take(chip, c, byte, frame, code, data, &mut reply);
     let core = t.core;
     let call = t.call;
     let size = size_of(call);
@@ -127,10 +122,13 @@ fn send_byte(s: Sent, byte: u8, frame: &mut [u8; 260], code: &mut [u8], data: &m
 }
 
 // The bytes of a row to a chip with the power on, one after the other.
-fn send_row(core: Core, row: &[u8], frame: &mut [u8; 260], code: &mut [u8], data: &mut [u8]) -> Sent
-    requires { ⌜ length (now frame) ≡ 260 ⌝ }
-    ensures { λ _. ⌜ length (now (frame .exit)) ≡ 260 ⌝ }
-{
+fn send_row(
+    core: Core,
+    row: &[u8],
+    frame: &mut [u8; 260],
+    code: &mut [u8],
+    data: &mut [u8],
+) -> Sent {
     let mut s = Sent {
         core: core,
         answered: false,
@@ -156,10 +154,7 @@ pub fn send(
     frame: &mut [u8; 260],
     code: &mut [u8],
     data: &mut [u8],
-) -> State
-    requires { ⌜ length (now frame) ≡ 260 ⌝ }
-    ensures { λ _. ⌜ length (now (frame .exit)) ≡ 260 ⌝ }
-{
+) -> State {
     io::write_all(1, text);
     end_line(true);
     if !chip.on {
@@ -182,10 +177,7 @@ pub fn play(
     frame: &mut [u8; 260],
     code: &mut [u8],
     data: &mut [u8],
-) -> State
-    requires { ⌜ length (now frame) ≡ 260 ⌝ }
-    ensures { λ _. ⌜ length (now (frame .exit)) ≡ 260 ⌝ }
-{
+) -> State {
     let c = chip.core;
     let core = printout::play(sheet, c, frame, code, data);
     State {

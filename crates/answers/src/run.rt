@@ -10,8 +10,6 @@ use text::lines::bad_line;
 use text::lines::line_length;
 use text::lines::room_for_bytes;
 use text::part;
-ghost use mathlib.Core.Path.{_≡_};
-ghost use lib.ListN.{length};
 
 // What stands between two lines.
 struct Between {
@@ -35,10 +33,7 @@ fn act(
     frame: &mut [u8; 260],
     code: &mut [u8],
     data: &mut [u8],
-) -> State
-    requires { ⌜ length (now frame) ≡ 260 ⌝ }
-    ensures { λ _. ⌜ length (now (frame .exit)) ≡ 260 ⌝ }
-{
+) -> State {
     match said {
         Line::Bad => chip,
         Line::Fresh => chip::fresh(code, data),
@@ -75,10 +70,7 @@ fn run(
     frame: &mut [u8; 260],
     code: &mut [u8],
     data: &mut [u8],
-) -> Between
-    requires { ⌜ length (now frame) ≡ 260 ⌝ }
-    ensures { λ _. ⌜ length (now (frame .exit)) ≡ 260 ⌝ }
-{
+) -> Between {
     let before = b.sheet;
     let held = in_hand::after(before, text, sheet);
     let chip = b.chip;
@@ -104,9 +96,7 @@ fn lines(
     frame: &mut [u8; 260],
     code: &mut [u8],
     data: &mut [u8],
-) -> usize
-    requires { ⌜ length (now frame) ≡ 260 ⌝ }
-{
+) -> usize {
     let mut b = Between {
         chip: chip::fresh(code, data),
         sheet: in_hand::empty(),

@@ -23,6 +23,7 @@ use Rattle.rules.specs.StandIn.{replyRoom}
 use Rattle.rules.specs.Sheet.{verdict, count, stepAt, andThen, rule, firstBroken}
 use Rattle.rules.specs.Player.{newPlayer, lost, playerVerdict, frameRoom}
 use Rattle.rules.specs.Run.{clean, Joined, run, stepRun, mostFrames, waits}
+use Rattle.rules.proofs.Sheet.{refused≢accepted}
 use Rattle.flash.proofs.Choices.{both}
 use Rattle.moves.proofs.Stands.{ready-stands, allowed-call}
 use Rattle.turns.specs.Turns.{Sized, Fit, Begins}
@@ -68,18 +69,15 @@ module _ (chip : Chip) (s : List ℕ) (j : Joined) where
 
 -- ---- what an acceptance says ----
 
-refused : {A : Type 0} {n : Refusal} → v.Refused n ≡ Accepted → A
-refused e = absurd (let z : _≡_ {A = ℕ} 0 1 = cc in omega arith)
-
 all-four : (x : Verdict) (a b c : Bool)
     → andThen x (firstBroken (rule D1 (not a) ∷ rule D2 (not b) ∷ rule D3 c ∷ [])) ≡ Accepted
     → (x ≡ Accepted) × (a ≡ true) × (b ≡ true) × (c ≡ false)
 unfolding firstBroken
 all-four Accepted true true false e = (refl, refl, refl, refl)
-all-four Accepted true true true e = refused e
-all-four Accepted true false c e = refused e
-all-four Accepted false b c e = refused e
-all-four (v.Refused n) a b c e = refused e
+all-four Accepted true true true e = absurd (refused≢accepted _ e)
+all-four Accepted true false c e = absurd (refused≢accepted _ e)
+all-four Accepted false b c e = absurd (refused≢accepted _ e)
+all-four (v.Refused n) a b c e = absurd (refused≢accepted _ e)
 
 -- of sheet, player and all that is lent
 pub record Good (chip : Chip) (s : List ℕ) (p : Player) (j : Joined) : Type 0 where

@@ -11,7 +11,6 @@ use rules::Player;
 use rules::Verdict;
 use sheet::read::step_at;
 ghost use mathlib.Core.Path.{_≡_};
-ghost use lib.ListN.{length};
 ghost use Rattle.rules.specs.Chip.{small};
 ghost use Rattle.rules.specs.Run.{clean, stepRun};
 ghost use Rattle.line.specs.Rigs.{rigged};
@@ -30,8 +29,7 @@ pub(crate) fn step_through(
     frame: &mut [u8],
     sums: &mut [u16],
 ) -> Rig
-    requires { ⌜ (length (now held) ≡ 260) × Starts chip (now sheet) (rigged r (now held) (now code) (now «data») (now reply) (now frame) (now sums)) ⌝ }
-    ensures { λ _. ⌜ length (now (held .exit)) ≡ 260 ⌝ }
+    requires { ⌜ Starts chip (now sheet) (rigged r (now held) (now code) (now «data») (now reply) (now frame) (now sums)) ⌝ }
     ensures { λ q. ⌜ rigged q (now (held .exit)) (now (code .exit)) (now («data» .exit)) (now (reply .exit)) (now (frame .exit)) (now (sums .exit)) ≡ stepRun clean chip (now (sheet .entry)) 0 (rigged r (now (held .entry)) (now (code .entry)) (now («data» .entry)) (now (reply .entry)) (now (frame .entry)) (now (sums .entry))) .joined ⌝ }
 {
     let p = r.player;
@@ -61,8 +59,6 @@ pub fn play_step(
     frame: &mut [u8],
     sums: &mut [u16],
 ) -> Played
-    requires { ⌜ length (now held) ≡ 260 ⌝ }
-    ensures { λ _. ⌜ length (now (held .exit)) ≡ 260 ⌝ }
     ensures { λ q. ⌜ outcome (q .answer) (rigged (q .rig) (now (held .exit)) (now (code .exit)) (now («data» .exit)) (now (reply .exit)) (now (frame .exit)) (now (sums .exit))) ≡ stepPlayed small (now (sheet .entry)) (rigged (record { player = p; core = c; heard = 0 }) (now (held .entry)) (now (code .entry)) (now («data» .entry)) (now (reply .entry)) (now (frame .entry)) (now (sums .entry))) ⌝ }
 {
     let chip = flash::finder::small();

@@ -14,7 +14,6 @@ use rules::Stage;
 use rules::Verdict;
 use sheet::read::count;
 ghost use mathlib.Core.Path.{_≡_};
-ghost use lib.ListN.{length};
 ghost use Rattle.rules.specs.Chip.{small};
 ghost use Rattle.rules.specs.Player.{newPlayer};
 ghost use Rattle.rules.specs.Run.{clean, run};
@@ -22,7 +21,8 @@ ghost use Rattle.line.specs.Rigs.{rigged};
 ghost use Rattle.bench.specs.Plays.{isOver, outcome, sheetPlayed};
 ghost use Rattle.bench.specs.Starts.{Opens};
 
-fn is_over(p: Player) -> bool
+// The play is over.
+pub fn is_over(p: Player) -> bool
     ensures { λ r. ⌜ r ≡ isOver (p .stage) ⌝ }
 {
     let stage = p.stage;
@@ -50,8 +50,7 @@ fn steps_through(
     frame: &mut [u8],
     sums: &mut [u16],
 ) -> Rig
-    requires { ⌜ (length (now held) ≡ 260) × Opens chip (now sheet) (rigged r (now held) (now code) (now «data») (now reply) (now frame) (now sums)) ⌝ }
-    ensures { λ _. ⌜ length (now (held .exit)) ≡ 260 ⌝ }
+    requires { ⌜ Opens chip (now sheet) (rigged r (now held) (now code) (now «data») (now reply) (now frame) (now sums)) ⌝ }
     ensures { λ q. ⌜ rigged q (now (held .exit)) (now (code .exit)) (now («data» .exit)) (now (reply .exit)) (now (frame .exit)) (now (sums .exit)) ≡ run clean chip (now (sheet .entry)) (rigged r (now (held .entry)) (now (code .entry)) (now («data» .entry)) (now (reply .entry)) (now (frame .entry)) (now (sums .entry))) .joined ⌝ }
 {
     let new = r.player;
@@ -87,8 +86,6 @@ pub fn play(
     frame: &mut [u8],
     sums: &mut [u16],
 ) -> Played
-    requires { ⌜ length (now held) ≡ 260 ⌝ }
-    ensures { λ _. ⌜ length (now (held .exit)) ≡ 260 ⌝ }
     ensures { λ q. ⌜ outcome (q .answer) (rigged (q .rig) (now (held .exit)) (now (code .exit)) (now («data» .exit)) (now (reply .exit)) (now (frame .exit)) (now (sums .exit))) ≡ sheetPlayed small (now (sheet .entry)) (rigged (record { player = newPlayer; core = c; heard = 0 }) (now (held .entry)) (now (code .entry)) (now («data» .entry)) (now (reply .entry)) (now (frame .entry)) (now (sums .entry))) ⌝ }
 {
     let chip = flash::finder::small();

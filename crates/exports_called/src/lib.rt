@@ -1,10 +1,9 @@
 // The entry that measures the engine as a call: it has a second caller in this archive, so that the compiler puts it into neither, as in a
 // program that calls it from two places.
-use exports::engine::answered;
-use exports::engine::starting;
-use standin::engine::take;
-ghost use mathlib.Core.Path.{_≡_};
-ghost use lib.ListN.{length};
+use engine::Change;
+use engine::hear;
+use exports::byte_calls::each_byte;
+use exports::byte_calls::starting;
 
 // Each byte by one call of the engine. Of each answer the first `shown` bytes go into the digest.
 #[no_mangle]
@@ -16,19 +15,8 @@ pub extern "C" fn rattle_called(
     code: &mut [u8],
     data: &mut [u8],
     reply: &mut [u8],
-) -> usize
-    requires { ⌜ length (now held) ≡ 260 ⌝ }
-{
-    let chip = flash::finder::small();
-    let mut core = starting(start);
-    let mut sum: usize = 0;
-    for i in 0..bytes.len() {
-        let t = take(chip, core, bytes[i], held, code, data, reply);
-        core = t.core;
-        let call = t.call;
-        sum = answered(sum, call, &*reply, shown);
-    }
-    sum
+) -> usize {
+    each_byte(bytes, start, shown, held, code, data, reply)
 }
 
 // One byte: the second caller.
@@ -40,10 +28,8 @@ pub extern "C" fn rattle_called_once(
     code: &mut [u8],
     data: &mut [u8],
     reply: &mut [u8],
-) -> usize
-    requires { ⌜ length (now held) ≡ 260 ⌝ }
-{
-    let t = take(
+) -> usize {
+    let changed = hear(
         flash::finder::small(),
         starting(start),
         byte,
@@ -52,6 +38,9 @@ pub extern "C" fn rattle_called_once(
         data,
         reply,
     );
-    let call = t.call;
-    answered(0, call, &*reply, 0)
+    match changed {
+        Change::Refused(_) => 0,
+        Change::Held(n) => n,
+        Change::Heard(h) => h.answered,
+    }
 }

@@ -1,14 +1,12 @@
 // The entry that measures a whole play. It stands alone in its archive, as a program that plays a sheet does.
 use bench::Answer;
 use bench::whole::play;
+use exports::byte_calls::waiting;
 use exports::digest::mixed;
 use exports::digest::number_of;
-use exports::engine::waiting;
 use exports::player_calls::reported;
 use player::report::report;
 use rules::Player;
-ghost use mathlib.Core.Path.{_≡_};
-ghost use lib.ListN.{length};
 
 // What a play came to: its answer, and of one that was played the report and the size of the last answer.
 fn outcome(answer: Answer, p: Player, heard: usize) -> usize {
@@ -30,9 +28,7 @@ pub extern "C" fn rattle_play(
     reply: &mut [u8],
     frame: &mut [u8],
     sums: &mut [u16],
-) -> usize
-    requires { ⌜ length (now held) ≡ 260 ⌝ }
-{
+) -> usize {
     let played = play(sheet, waiting(), held, code, data, reply, frame, sums);
     let answer = played.answer;
     let rig = played.rig;

@@ -1,7 +1,7 @@
 // The entry that measures the call by value. It stands alone in its archive: with two callers in one module the compiler would not put
 // the engine into either of them.
-use exports::engine::answered;
-use exports::engine::starting;
+use exports::byte_calls::answered;
+use exports::byte_calls::starting;
 use standin::call::Device;
 use standin::call::take_byte;
 

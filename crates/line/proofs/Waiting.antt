@@ -14,7 +14,7 @@ use Rattle.rules.specs.declared.Task.the-variants.{Idle, Programming, Verifying
 use Rattle.rules.specs.Frame.{frameSize, lenOf}
 use Rattle.rules.specs.StandIn.{received}
 use Rattle.rules.specs.Run.{waitsIn}
-use Rattle.standin.specs.View.{heldOf}
+use Rattle.engine.specs.View.{heldOf}
 use Rattle.line.specs.Rigs.{isCommand, isIdle}
 
 -- ---- phase and command begun ----

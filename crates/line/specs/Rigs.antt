@@ -23,7 +23,7 @@ use Rattle.rules.specs.Sheet.{stepAt, rule, firstBroken, andThen}
 use Rattle.rules.specs.Player.{playerVerdict}
 use Rattle.rules.specs.Run.{Joined, joining, mostFrames}
 use Rattle.flash.specs.Lent.{memory}
-use Rattle.standin.specs.View.{view}
+use Rattle.engine.specs.View.{view}
 use Rattle.line.specs.declared.Rig.{Rig}
 use Rattle.line.specs.declared.checks.Lent.{Lent}
 

@@ -61,8 +61,7 @@ pub fn turn(
     frame: &mut [u8],
     sums: &mut [u16],
 ) -> Rig
-    requires { ⌜ (length (now held) ≡ 260) × Turns chip (now sheet) (rigged r (now held) (now code) (now «data») (now reply) (now frame) (now sums)) ⌝ }
-    ensures { λ _. ⌜ length (now (held .exit)) ≡ 260 ⌝ }
+    requires { ⌜ Turns chip (now sheet) (rigged r (now held) (now code) (now «data») (now reply) (now frame) (now sums)) ⌝ }
     ensures { λ q. ⌜ rigged q (now (held .exit)) (now (code .exit)) (now («data» .exit)) (now (reply .exit)) (now (frame .exit)) (now (sums .exit)) ≡ turned clean chip (now (sheet .entry)) 0 (rigged r (now (held .entry)) (now (code .entry)) (now («data» .entry)) (now (reply .entry)) (now (frame .entry)) (now (sums .entry))) ⌝ }
 {
     let p = r.player;

@@ -2,47 +2,24 @@
 use mathlib.Core.Path.{_≡_, refl, sym, ap}
 use mathlib.Core.Bool.{true, cond}
 use mathlib.Core.List.{List, [], _∷_, _++_}
-use Prim.Native.Nat.{ℕ, suc, _+_, _%_, _<_}
+use Prim.Native.Nat.{ℕ, _+_, _%_, _<_}
 use native.Mathlib.Omega.{arith}
 use lib.Dec.{eqb}
 use lib.ListN.{length, take, drop}
-use lib.Seq.{take-at, getD-at, getD-append-add}
 use borrow.Author.Tests.{eqb-true, eq-eqb}
 use Rattle.rules.specs.declared.Status.{Status}
 use Rattle.rules.specs.declared.Status.the-variants.{Byte, L1}
 use Rattle.rules.specs.Chip.{byteAt, wordBytes, total}
-use Rattle.rules.specs.Frame.{dataStart, lastEnd, frame, sumByte, one, pair}
+use Rattle.rules.specs.Frame.{dataStart, lastEnd, frame, one, pair}
 use Rattle.rules.specs.Player.{well, framed, commandReply, sumReply, sumIn, dataReply, isWell}
 use Rattle.flash.proofs.Choices.{apart}
 use Rattle.wire.proofs.Buffers.{length-frame}
-use Rattle.wire.proofs.Sum.{total-frame}
+use Rattle.wire.proofs.Built.{frame-sum, frame-end}
 
 -- a status that does not stop the play
 pub is-well : (st : Status) → isWell st ≡ true → st ≡ well
 is-well (Byte b) e = ap Byte (eqb-true b 0x06 e)
 is-well L1 e = apart (sym e)
-
--- ---- a frame that was built ----
-
-module _ (start end : ℕ) (body : List ℕ) where
-  -- LEN, body and SUM come to 0
-  pub frame-sum : total (take (length body + 2) (drop 1 (frame start end body))) % 256 ≡ 0
-  unfolding frame sumByte
-  frame-sum =
-      let f = frame start end body in
-      let n = length body in
-      let k : n + 2 ≡ suc (suc n) = omega arith in
-      let t = total-frame f n (omega (arith, length-frame start end body)) in
-      let b : total (take n (drop 2 f)) ≡ total body = ap total (take-at body (sumByte body ∷ end ∷ []) n refl) in
-      let s : byteAt f (n + 2) ≡ sumByte body = rw k (getD-at body (sumByte body) (end ∷ []) 0 n refl) in
-      omega (arith, t, b, s)
-
-  -- the end byte stands behind them
-  pub frame-end : byteAt (frame start end body) (length body + 3) ≡ end
-  unfolding frame
-  frame-end =
-      let k : length body + 3 ≡ suc (suc (length body + 1)) = omega arith in
-      rw k (getD-append-add body (sumByte body ∷ end ∷ []) 1 0)
 
 pub framed-frame : (body : List ℕ) → length body < 256 → framed (length body) (frame dataStart lastEnd body) ≡ true
 unfolding framed frame

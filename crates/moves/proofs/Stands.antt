@@ -18,6 +18,7 @@ use Rattle.rules.specs.declared.Verdict.{Verdict}
 use Rattle.rules.specs.declared.Verdict.the-variants.{Accepted, Refused}
 use Rattle.rules.specs.Sheet.{count, stepAt, stepBlocks, stepPages, andThen, verdict}
 use Rattle.rules.specs.Player.{awaits, lostIn, lost, frameRoom, playerVerdict}
+use Rattle.rules.proofs.Sheet.{refused≢accepted}
 use Rattle.flash.proofs.Choices.{apart, both}
 
 -- ---- what a kind awaits ----
@@ -134,15 +135,13 @@ module _ (chip : Chip) (s : List ℕ) (p : Player) (t : Step) (here : stepAt chi
     stands-paged g k a = rw (g, here, lt-ltb (p .step) (count s) l, lt-ltb (p .at) (stepPages t) a, k)
 
 -- the three grounds of a refusal
-refused : {A : Type 0} {n : Refusal} → Refused n ≡ Accepted → A
-refused e = absurd (let z : _≡_ {A = ℕ} 0 1 = cc in omega arith)
 
 accepted : (v : Verdict) (a b : Bool) → andThen v (cond a (Refused P1) (cond b (Refused P2) Accepted)) ≡ Accepted
     → (v ≡ Accepted) × (a ≡ false) × (b ≡ false)
 accepted Accepted false false e = (refl, refl, refl)
-accepted Accepted false true e = refused e
-accepted Accepted true b e = refused e
-accepted (Refused n) a b e = refused e
+accepted Accepted false true e = absurd (refused≢accepted _ e)
+accepted Accepted true b e = absurd (refused≢accepted _ e)
+accepted (Refused n) a b e = absurd (refused≢accepted _ e)
 
 module _ (chip : Chip) (s : List ℕ) (p : Player) where
   pub stands-new : p .stage ≡ New → lost chip s p ≡ false

@@ -41,7 +41,7 @@ module _ (chip : Chip) (p : Pages) (h : ahead chip p ≡ true) where
   some-left : 0 < p .left
   some-left = ltb-true _ _ (both (ltb 0 (p .left)) (leb (p .page + p .left) (pages chip (p .flash))) h .0)
 
-  page-in : p .page < pages chip (p .flash)
+  pub page-in : p .page < pages chip (p .flash)
   page-in =
       let e : p .page + p .left ≤ pages chip (p .flash) = leb-true _ _ (both (ltb 0 (p .left)) _ h .1) in
       omega (arith, some-left)
@@ -60,13 +60,18 @@ module _ (chip : Chip) (p : Pages) (h : ahead chip p ≡ true) where
     unfolding programmed
     page-written guarded body = simp (eq-eqb _ _ (lent-size chip m fit (p .flash)), lt-ltb _ _ page-in)
 
--- a data frame judged well has LEN 00h, so that its body is 256 bytes
-body-well : (last : Bool) (b : List ℕ) → statusByte (dataFault last (frameIn b)) ≡ 0x06 → bodyOf (frameIn b) ≡ take 256 (drop 2 b)
-unfolding dataFault bodySize
-body-well last b e =
-    let f = frameIn b in
+-- a data frame judged well has LEN 00h
+pub len-none : (last : Bool) (f : List ℕ) → statusByte (dataFault last f) ≡ 0x06 → lenOf f ≡ 0
+unfolding dataFault
+len-none last f e =
     let q = first-quiet (check EndByte (not (eqb (endOf f) (endDue last))) ∷ check Sum (not (sumHolds f)) ∷ check Length (not (eqb (lenOf f) 0x00)) ∷ []) refl (well-byte _ e) in
-    let z : lenOf b ≡ 0 = sym (len-in b) ∙ eqb-true _ _ (not-false _ (q .1 .1 .0)) in
+    eqb-true (lenOf f) 0 (not-false _ (q .1 .1 .0))
+
+-- so its body is 256 bytes
+body-well : (last : Bool) (b : List ℕ) → statusByte (dataFault last (frameIn b)) ≡ 0x06 → bodyOf (frameIn b) ≡ take 256 (drop 2 b)
+unfolding bodySize
+body-well last b e =
+    let z : lenOf b ≡ 0 = sym (len-in b) ∙ len-none last (frameIn b) e in
     body-in b ∙ rw z
 
 -- 06h, or a difference

@@ -1,6 +1,7 @@
 // A sheet played to a stand-in and printed: a line after each step.
 use bench::Answer;
 use bench::step::play_step;
+use bench::whole::is_over;
 use device::Core;
 use line::Rig;
 use line::checks::Lent;
@@ -17,19 +18,9 @@ use sheet::read::step_at;
 use std::num::wrapping_add_usize;
 use std::num::wrapping_sub_usize;
 use text::told;
-ghost use mathlib.Core.Path.{_≡_};
-ghost use lib.ListN.{length};
 
 // The most steps that a sheet has, and so the entries that a list of sums needs.
 const MOST_STEPS: usize = 64;
-
-fn is_over(p: Player) -> bool {
-    let stage = p.stage;
-    match stage {
-        Stage::Over => true,
-        _ => false,
-    }
-}
 
 fn is_played(answer: Answer) -> bool {
     match answer {
@@ -68,10 +59,7 @@ fn step(
     reply: &mut [u8],
     frame: &mut [u8],
     sums: &mut [u16],
-) -> Rig
-    requires { ⌜ length (now held) ≡ 260 ⌝ }
-    ensures { λ _. ⌜ length (now (held .exit)) ≡ 260 ⌝ }
-{
+) -> Rig {
     let p = r.player;
     let c = r.core;
     let played = play_step(sheet, p, c, held, code, data, reply, frame, sums);
@@ -95,10 +83,7 @@ fn steps(
     reply: &mut [u8],
     frame: &mut [u8],
     sums: &mut [u16],
-) -> Rig
-    requires { ⌜ length (now held) ≡ 260 ⌝ }
-    ensures { λ _. ⌜ length (now (held .exit)) ≡ 260 ⌝ }
-{
+) -> Rig {
     let mut rig = r;
     for _ in 0..MOST_STEPS {
         let p = rig.player;
@@ -121,10 +106,7 @@ fn whole(
     reply: &mut [u8],
     frame: &mut [u8],
     sums: &mut [u16],
-) -> Core
-    requires { ⌜ length (now held) ≡ 260 ⌝ }
-    ensures { λ _. ⌜ length (now (held .exit)) ≡ 260 ⌝ }
-{
+) -> Core {
     told::heading();
     // the first call of a play reads no reply
     let begun = absorb(chip, sheet, new_player(), &reply[0..0], sums);
@@ -149,10 +131,7 @@ fn play_with(
     reply: &mut [u8],
     frame: &mut [u8],
     sums: &mut [u16],
-) -> Core
-    requires { ⌜ length (now held) ≡ 260 ⌝ }
-    ensures { λ _. ⌜ length (now (held .exit)) ≡ 260 ⌝ }
-{
+) -> Core {
     let chip = flash::finder::small();
     let lent = Lent {
         code: code.len(),
@@ -173,10 +152,7 @@ fn play_with(
 }
 
 // Plays the sheet with a new player, and prints the play; or why it is refused, and then all stands.
-pub fn play(sheet: &[u8], c: Core, held: &mut [u8; 260], code: &mut [u8], data: &mut [u8]) -> Core
-    requires { ⌜ length (now held) ≡ 260 ⌝ }
-    ensures { λ _. ⌜ length (now (held .exit)) ≡ 260 ⌝ }
-{
+pub fn play(sheet: &[u8], c: Core, held: &mut [u8; 260], code: &mut [u8], data: &mut [u8]) -> Core {
     let mut reply = [0u8; 16];
     let mut frame = [0u8; 260];
     let mut sums = [0u16; MOST_STEPS];

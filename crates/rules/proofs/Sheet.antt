@@ -30,7 +30,7 @@ pub record Allowed (chip : Chip) (s : List ℕ) (room : ℕ) : Type 0 where
   pub j10 : J10 s room ≡ false
 
 -- a rule and those behind it
-refused≢accepted : (n : Refusal) → Refused n ≡ Accepted → ⊥
+pub refused≢accepted : (n : Refusal) → Refused n ≡ Accepted → ⊥
 refused≢accepted n e = let z : _≡_ {A = ℕ} 0 1 = cc in omega arith
 
 unbroken : (b : Bool) (n : Refusal) (v : Verdict) → cond b (Refused n) v ≡ Accepted → (b ≡ false) × (v ≡ Accepted)

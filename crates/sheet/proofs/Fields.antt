@@ -15,7 +15,7 @@ use Rattle.rules.specs.declared.Flash.the-variants.{Code, Data}
 use Rattle.rules.specs.Chip.{byteAt, wordAt, addressAt, range, pagesPerBlock}
 use Rattle.rules.specs.Sheet.{tableEnd, entryAt, kindAt, zeroAt, offsetAt, rangeAt, bodyLength, bodyEnd, offsetDue, kindOf, stepOf, stepAt}
 use Rattle.sheet.specs.declared.read.Entry.{Entry}
-use Rattle.sheet.specs.Reading.{entryIn, lengthOf, endOf}
+use Rattle.sheet.specs.Reading.{entryIn, fieldsOf, lengthOf, endOf}
 
 -- ---- what is cut from a place on ----
 
@@ -41,16 +41,7 @@ module _ (n : ℕ) (s : List ℕ) where
   address-there k m e = rw (byte-there k m e, byte-there (k + 1) (m + 1) (omega arith), byte-there (k + 2) (m + 2) (omega arith))
 
 -- the fields of an entry
-pub entry-there : (s : List ℕ) (i : ℕ) (e : List ℕ) → e ≡ drop (entryAt i) s
-    → _≡_ {A = Entry}
-    (record {
-      kind = byteAt e 0;
-      sad = addressAt e 1;
-      ead = addressAt e 4;
-      zero = byteAt e 7;
-      offset = wordAt e 8 + 65536 * wordAt e 10;
-    })
-    (entryIn s i)
+pub entry-there : (s : List ℕ) (i : ℕ) (e : List ℕ) → e ≡ drop (entryAt i) s → fieldsOf e ≡ entryIn s i
 entry-there s i e h =
     let n = entryAt i in
     cc (h, byte-there n s 0 n (omega arith), address-there n s 1 (n + 1) refl, address-there n s 4 (n + 4) refl, byte-there n s 7 (n + 7) refl, word-there n s 8 (n + 8) refl, word-there n s 10 (n + 10) refl)

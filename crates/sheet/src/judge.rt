@@ -1,4 +1,5 @@
 // The rules: J1 to J10 in the order of the document, each with its own return. No body is read.
+use crate::read::Entry;
 use crate::read::body_end;
 use crate::read::count;
 use crate::read::entry_at;
@@ -10,8 +11,10 @@ use rules::Range;
 use rules::Refusal;
 use rules::Verdict;
 ghost use mathlib.Core.Path.{_≡_};
+ghost use Prim.Native.Nat.{ℕ};
 ghost use Rattle.rules.specs.Chip.{invalid};
-ghost use Rattle.rules.specs.Sheet.{headVerdict, entryVerdict, entriesVerdict, tailVerdict, verdict};
+ghost use Rattle.rules.specs.Sheet.{offsetDue, headVerdict, entryVerdict, entriesVerdict, tailVerdict, verdict};
+ghost use Rattle.sheet.specs.Reading.{entryIn};
 
 // How many bytes a sheet has at least and at most, and how many steps at most.
 const LEAST_BYTES: usize = 2;
@@ -50,16 +53,14 @@ fn is_invalid(range: Range) -> bool
     }
 }
 
-// J4 to J8 of entry i: its fields first, then the rules in order.
-fn entry_verdict(chip: Chip, sheet: &[u8], i: usize) -> Verdict
-    ensures { λ r. ⌜ r ≡ entryVerdict chip (now (sheet .entry)) i ⌝ }
+// J4 to J8 of an entry, given the offset that it must say: the rules in order.
+fn entry_verdict(chip: Chip, sheet: &[u8], e: Entry, due: usize) -> Verdict
+    ensures { λ r. ⌜ ((i : ℕ) → e ≡ entryIn (now (sheet .entry)) i → due ≡ offsetDue (now (sheet .entry)) i → r ≡ entryVerdict chip (now (sheet .entry)) i) ⌝ }
 {
-    let e = entry_at(sheet, i);
     let kind = e.kind;
     let zero = e.zero;
     let no_pair = is_invalid(range(chip, e.sad, e.ead));
     let offset = e.offset as usize;
-    let due = offset_due(sheet, i);
     let end = body_end(e);
     if kind < 1 {
         return Verdict::Refused(Refusal::J4);
@@ -87,10 +88,14 @@ fn entries_verdict(chip: Chip, sheet: &[u8], n: usize) -> Verdict
     ensures { λ r. ⌜ r ≡ entriesVerdict chip (now (sheet .entry)) 0 n ⌝ }
 {
     let mut i = 0;
+    // the offset that entry i must say: the end of the table, then that of the body before
+    let mut due = table_end(sheet);
     while i < n {
-        if let Verdict::Refused(refusal) = entry_verdict(chip, sheet, i) {
+        let e = entry_at(sheet, i);
+        if let Verdict::Refused(refusal) = entry_verdict(chip, sheet, e, due) {
             return Verdict::Refused(refusal);
         }
+        due = body_end(e);
         i += 1;
     }
     Verdict::Accepted

@@ -12,10 +12,10 @@ use rules::Step;
 use rules::Verdict;
 ghost use mathlib.Core.Path.{_≡_};
 ghost use Prim.Native.Nat.{_+_, _*_, _<_, _≤_};
-ghost use lib.ListN.{drop};
+ghost use lib.ListN.{length, drop};
 ghost use Rattle.rules.specs.Chip.{byteAt, wordAt, addressAt};
 ghost use Rattle.rules.specs.Sheet.{count, tableEnd, entryAt, offsetDue, kindOf, stepOf, stepAt, stepBlocks, stepPages};
-ghost use Rattle.sheet.specs.Reading.{lengthOf, endOf, entryIn, readingAt};
+ghost use Rattle.sheet.specs.Reading.{lengthOf, endOf, entryIn, fieldsOf, readingAt};
 
 // The two bytes of the count, and the twelve of an entry.
 const HEAD_SIZE: usize = 2;
@@ -34,19 +34,31 @@ pub fn byte_at(s: &[u8], i: usize) -> u8
     0
 }
 
+fn word_of(low: u8, high: u8) -> u32
+    ensures { λ r. ⌜ (r ≡ low + 256 * high) × (r < 65536) ⌝ }
+{
+    low as u32 + 256 * high as u32
+}
+
+fn address_of(low: u8, middle: u8, high: u8) -> Address
+    ensures { λ r. ⌜ r .0 ≡ low + 256 * middle + 65536 * high ⌝ }
+{
+    Address(word_of(low, middle) + 65536 * high as u32)
+}
+
 // A word and an address, among the bytes of the head or of one entry.
 fn word_at(s: &[u8], i: usize) -> u32
     requires { ⌜ i < 12 ⌝ }
     ensures { λ r. ⌜ (r ≡ wordAt (now (s .entry)) i) × (r < 65536) ⌝ }
 {
-    byte_at(s, i) as u32 + 256 * byte_at(s, i + 1) as u32
+    word_of(byte_at(s, i), byte_at(s, i + 1))
 }
 
 fn address_at(s: &[u8], i: usize) -> Address
     requires { ⌜ i < 12 ⌝ }
     ensures { λ r. ⌜ r ≡ addressAt (now (s .entry)) i ⌝ }
 {
-    Address(word_at(s, i) + 65536 * byte_at(s, i + 2) as u32)
+    address_of(byte_at(s, i), byte_at(s, i + 1), byte_at(s, i + 2))
 }
 
 // How many steps the sheet says it has.
@@ -99,10 +111,10 @@ fn offset_at(s: &[u8], i: usize) -> u32
     low + 65536 * high
 }
 
-pub(crate) fn entry_at(sheet: &[u8], i: usize) -> Entry
-    ensures { λ r. ⌜ r ≡ entryIn (now (sheet .entry)) i ⌝ }
+// An entry that is cut short: past the end its bytes read as 0.
+fn cut_entry(e: &[u8]) -> Entry
+    ensures { λ r. ⌜ r ≡ fieldsOf (now (e .entry)) ⌝ }
 {
-    let e = from_entry(sheet, i);
     Entry {
         kind: byte_at(e, 0),
         sad: address_at(e, 1),
@@ -110,6 +122,30 @@ pub(crate) fn entry_at(sheet: &[u8], i: usize) -> Entry
         zero: byte_at(e, 7),
         offset: offset_at(e, 8),
     }
+}
+
+// An entry that is all there: no byte of it has to be asked for.
+fn whole_entry(e: &[u8]) -> Entry
+    requires { ⌜ 12 ≤ length (now e) ⌝ }
+    ensures { λ r. ⌜ r ≡ fieldsOf (now (e .entry)) ⌝ }
+{
+    Entry {
+        kind: e[0],
+        sad: address_of(e[1], e[2], e[3]),
+        ead: address_of(e[4], e[5], e[6]),
+        zero: e[7],
+        offset: word_of(e[8], e[9]) + 65536 * word_of(e[10], e[11]),
+    }
+}
+
+pub(crate) fn entry_at(sheet: &[u8], i: usize) -> Entry
+    ensures { λ r. ⌜ r ≡ entryIn (now (sheet .entry)) i ⌝ }
+{
+    let e = from_entry(sheet, i);
+    if e.len() < ENTRY_SIZE {
+        return cut_entry(e);
+    }
+    whole_entry(e)
 }
 
 // ---- bodies ----

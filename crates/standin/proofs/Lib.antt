@@ -1,9 +1,5 @@
-pub mod Begun
-pub mod Gathered
-pub mod Lengths
 pub mod Onward
 pub mod Opens
 pub mod Outcomes
-pub mod Receives
 pub mod Whole
 pub mod Powers

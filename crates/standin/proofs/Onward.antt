@@ -11,9 +11,9 @@ use Rattle.rules.specs.declared.Call.{Call}
 use Rattle.rules.specs.declared.Call.the-variants.{Refused, Answer}
 use Rattle.rules.specs.declared.Refusal.{Refusal}
 use Rattle.rules.specs.StandIn.{State, Outcome, byteCall}
-use Rattle.standin.specs.View.{came}
+use Rattle.engine.specs.View.{came}
 use Rattle.standin.specs.Feeding.{Feeding, feeding, goesOn, feedFrom}
-use Rattle.standin.proofs.Lengths.{Fitting, call-fits}
+use Rattle.engine.proofs.Lengths.{Fitting, call-fits}
 
 module _ (chip : Chip) (s : State) (out : List ℕ) (w i : ℕ) where
   pub fed-end : (bytes : List ℕ) → length bytes ≤ i → feeding s (Answer w) i out ≡ feedFrom chip s out w i (drop i bytes)

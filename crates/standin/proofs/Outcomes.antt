@@ -8,7 +8,7 @@ use Rattle.rules.specs.declared.Options.{Options}
 use Rattle.rules.specs.declared.Call.{Call}
 use Rattle.rules.specs.Chip.{Memory}
 use Rattle.rules.specs.StandIn.{State, Outcome, Powered}
-use Rattle.standin.specs.View.{came}
+use Rattle.engine.specs.View.{came}
 use Rattle.standin.specs.Feeding.{Feeding, feeding}
 
 -- what two states have in common that are the same: phase, command begun, options, what is half received, both flashes

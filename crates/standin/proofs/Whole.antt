@@ -19,7 +19,7 @@ use Rattle.rules.specs.StandIn.{State, Out, rest, holding, startOf, taskNow, on
 use Rattle.rules.specs.Run.{joined}
 use Rattle.flash.proofs.Choices.{both}
 use Rattle.standin.specs.Feeding.{feeding, feedFrom, fedInto}
-use Rattle.standin.proofs.Receives.{begun, more, frame-step, taken}
+use Rattle.engine.proofs.Receives.{begun, more, frame-step, taken}
 
 -- a beginning of a whole frame is none
 beginning : (p q : List ℕ) → (length q ≡ 0 → ⊥) → whole (p ++ q) ≡ true → whole p ≡ false

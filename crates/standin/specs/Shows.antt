@@ -8,7 +8,7 @@ use Rattle.rules.specs.declared.Phase.the-variants.{Mode, Silent}
 use Rattle.rules.specs.Chip.{Memory}
 use Rattle.rules.specs.Options.{IFPR}
 use Rattle.rules.specs.StandIn.{State}
-use Rattle.standin.specs.View.{view}
+use Rattle.engine.specs.View.{view}
 use Rattle.standin.specs.declared.call.Device.{Device}
 
 abbrev pub shows : Device → Memory → State

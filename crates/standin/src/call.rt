@@ -1,5 +1,4 @@
 // A device by value: the byte call over the engine, and power-on.
-use super::engine;
 use device::Core;
 use rules::Call;
 use rules::Flash;
@@ -14,7 +13,7 @@ ghost use Rattle.rules.specs.Chip.{Memory, small};
 ghost use Rattle.rules.specs.Options.{freshOptions};
 ghost use Rattle.rules.specs.StandIn.{Outcome, Powered, byteCall, powerOn, rest};
 ghost use Rattle.flash.specs.Lent.{memory};
-ghost use Rattle.standin.specs.View.{came};
+ghost use Rattle.engine.specs.View.{came};
 ghost use Rattle.standin.specs.Shows.{shows, poweredPhase};
 
 // The record between two calls: the small state, and the bytes of the frame in hand.

@@ -1,12 +1,11 @@
 // Feeding a slice of bytes: one byte call after the other.
-use super::engine;
 use device::Core;
+use engine::Change;
 use rules::Call;
 use rules::Chip;
 ghost use mathlib.Core.Path.{_≡_};
-ghost use lib.ListN.{length};
 ghost use Rattle.flash.specs.Lent.{memory};
-ghost use Rattle.standin.specs.View.{view};
+ghost use Rattle.engine.specs.View.{view};
 ghost use Rattle.standin.specs.Feeding.{Feeding, feeding, fedInto};
 
 // The device after the bytes, how many bytes it answered or the first refusal, and how many bytes it took.
@@ -27,49 +26,35 @@ pub fn feed(
     data: &mut [u8],
     answers: &mut [u8],
 ) -> Fed
-    requires { ⌜ length (now frame) ≡ 260 ⌝ }
-    ensures { λ _. ⌜ length (now (frame .exit)) ≡ 260 ⌝ }
     ensures { λ r. ⌜ feeding (view (r .core) (now (frame .exit)) (memory (now (code .exit)) (now («data» .exit)))) (r .call) (r .taken) (now (answers .exit)) ≡ fedInto chip (view c (now (frame .entry)) (memory (now (code .entry)) (now («data» .entry)))) (now (answers .entry)) (now (bytes .entry)) ⌝ }
 {
     let mut core = c;
     let mut w = 0;
     let mut i = 0;
     while i < bytes.len() {
-        let phase = core.phase;
-        let held = engine::goes_on(
-            chip,
-            phase,
-            core.have,
-            bytes[i],
-            frame,
-            code.len(),
-            data.len(),
-            answers.len() - w,
-        );
-        if held > 0 {
-            core.have = held;
-            i += 1;
-            continue;
-        }
-        let t = engine::take(chip, core, bytes[i], frame, code, data, &mut answers[w..]);
-        core = t.core;
-        let call = t.call;
-        match call {
-            Call::Answer(n) => {
-                w = w + n;
-            }
-            Call::Refused(_) => {
+        let changed = engine::hear(chip, core, bytes[i], frame, code, data, &mut answers[w..]);
+        match changed {
+            Change::Refused(refusal) => {
                 return Fed {
-                    core: core,
-                    call: call,
+                    core,
+                    call: Call::Refused(refusal),
                     taken: i,
                 };
+            }
+            Change::Held(n) => {
+                core.have = n;
+                i += 1;
+                continue;
+            }
+            Change::Heard(h) => {
+                core = h.core;
+                w = w + h.answered;
             }
         }
         i += 1;
     }
     Fed {
-        core: core,
+        core,
         call: Call::Answer(w),
         taken: i,
     }

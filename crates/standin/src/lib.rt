@@ -1,6 +1,4 @@
 // The stand-in: one received byte a call, power-on, and feeding many bytes.
 pub mod call;
-pub mod engine;
 pub mod feeding;
-pub mod frames;
 pub mod opening;

@@ -4,10 +4,9 @@ use device::Core;
 use rules::Chip;
 ghost use mathlib.Core.Path.{_≡_};
 ghost use mathlib.Core.List.{_∷_, _++_};
-ghost use lib.ListN.{length};
 ghost use Rattle.rules.specs.Frame.{frame};
 ghost use Rattle.flash.specs.Lent.{memory};
-ghost use Rattle.standin.specs.View.{view};
+ghost use Rattle.engine.specs.View.{view};
 ghost use Rattle.standin.specs.Feeding.{Feeding, feeding, fedInto};
 ghost use Rattle.standin.specs.Opening.{speedBytes, openingBytes};
 
@@ -65,8 +64,6 @@ pub fn open(
     data: &mut [u8],
     answers: &mut [u8],
 ) -> feeding::Fed
-    requires { ⌜ length (now frame) ≡ 260 ⌝ }
-    ensures { λ _. ⌜ length (now (frame .exit)) ≡ 260 ⌝ }
     ensures { λ r. ⌜ feeding (view (r .core) (now (frame .exit)) (memory (now (code .exit)) (now («data» .exit)))) (r .call) (r .taken) (now (answers .exit)) ≡ fedInto chip (view c (now (frame .entry)) (memory (now (code .entry)) (now («data» .entry)))) (now (answers .entry)) (openingBytes (c .options) (now (id .entry))) ⌝ }
 {
     let bytes = all_bytes(id);

@@ -28,7 +28,7 @@ use Rattle.flash.proofs.Choices.{both}
 use Rattle.flash.proofs.Geometry.{in-pages}
 use Rattle.flash.proofs.Parts.{inside, length-put}
 use Rattle.flash.proofs.ThereAndBack.{erase-inside}
-use Rattle.verdict.proofs.Verdicts.{well-byte, first-quiet}
+use Rattle.pages.proofs.DataFrames.{page-in, len-none}
 use Rattle.command.proofs.Codes.{leaves}
 use Rattle.turns.specs.Turns.{Fit}
 
@@ -61,28 +61,14 @@ either : (chip : Chip) (t : Bool) (a b : Out) → (t ≡ true → Kept chip a) �
 either chip true a b p q = p refl
 either chip false a b p q = q
 
--- a page of a command begun is there
-page-there : (chip : Chip) (p : Pages) → ahead chip p ≡ true → p .page < pages chip (p .flash)
-page-there chip p h =
-    let q = both (ltb 0 (p .left)) (leb (p .page + p .left) (pages chip (p .flash))) h in
-    let some = ltb-true 0 (p .left) (q .0) in
-    let most = leb-true (p .page + p .left) (pages chip (p .flash)) (q .1) in
-    omega arith
-
 -- a whole data frame judged well has a body of 256 bytes
 module _ (last : Bool) (f : List ℕ) (w : whole f ≡ true) (well : statusByte (dataFault last f) ≡ 0x06) where
-  len-none : lenOf f ≡ 0
-  unfolding dataFault
-  len-none =
-      let q = first-quiet (check EndByte (not (eqb (endOf f) (endDue last))) ∷ check Sum (not (sumHolds f)) ∷ check Length (not (eqb (lenOf f) 0x00)) ∷ []) refl (well-byte _ well) in
-      eqb-true (lenOf f) 0 (not-false _ (q .1 .1 .0))
-
   body-long : length (bodyOf f) ≡ 256
   unfolding whole bodySize frameSize
   body-long =
       let e = eqb-true (length f) (frameSize (lenOf f)) (both (leb 2 (length f)) (eqb (length f) (frameSize (lenOf f))) w .1) in
-      let l : length f ≡ 260 = e ∙ rw len-none in
-      rw len-none (length-take-le 256 (drop 2 f) (omega (arith, length-drop 2 f)))
+      let l : length f ≡ 260 = e ∙ rw (len-none last f well) in
+      rw (len-none last f well) (length-take-le 256 (drop 2 f) (omega (arith, length-drop 2 f)))
 
 module _ (chip : Chip) (s : State) (fit : Fit chip (s .memory)) (f : List ℕ) where
   effect-kept : (code : ℕ) → Kept chip (effectOf effects code chip s f)
@@ -112,7 +98,7 @@ module _ (chip : Chip) (s : State) (fit : Fit chip (s .memory)) (f : List ℕ) w
         where
           go : (t : Bool) → Fit chip (cond t (withFlash (s .memory) (p .flash) (putPart pageSize (p .page) (bodyOf f) (flashOf (s .memory) (p .flash)))) (s .memory))
           go true =
-              put-kept chip (s .memory) fit (p .flash) pageSize (pages chip (p .flash)) (p .page) (bodyOf f) (sym (in-pages chip (p .flash))) (page-there chip p h) l
+              put-kept chip (s .memory) fit (p .flash) pageSize (pages chip (p .flash)) (p .page) (bodyOf f) (sym (in-pages chip (p .flash))) (page-in chip p h) l
           go false = fit
 
       page-kept : Kept chip (onPage p s f)

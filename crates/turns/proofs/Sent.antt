@@ -5,8 +5,7 @@ use mathlib.Core.List.{List, [], _∷_, _++_}
 use Prim.Native.Nat.{ℕ, suc, _+_, _*_, _/_, _%_, _<_, _≤_}
 use native.Mathlib.Omega.{arith}
 use lib.Dec.{eqb}
-use lib.ListN.{length, take, drop}
-use lib.Seq.{take-append-seam, getD-append-add, getD-append-seam}
+use lib.ListN.{length}
 use borrow.Author.Tests.{eqb-true, eqb-false, eq-eqb, ne-eqb, le-leb}
 use Rattle.rules.specs.declared.Chip.{Chip}
 use Rattle.rules.specs.declared.Flash.{Flash}
@@ -33,59 +32,12 @@ use Rattle.rules.specs.StandIn.{State, Out, Fed, out, rest, startOf, taskNow, o
 use Rattle.rules.specs.Player.{command, pairCommand}
 use Rattle.rules.specs.Run.{joined, waitsIn, waits}
 use Rattle.flash.proofs.ThereAndBack.{Apart, erase-there, range-there}
-use Rattle.wire.proofs.Buffers.{length-frame}
+use Rattle.wire.proofs.Built.{len-framed, body-framed, end-framed, sum-framed, whole-framed}
 use Rattle.wire.proofs.Checks.{passed, none, framed}
-use Rattle.wire.proofs.Frames.{frame-size}
-use Rattle.wire.proofs.Sum.{total-frame}
 use Rattle.verdict.proofs.Causes.{cause-protected, cause-none}
 use Rattle.command.proofs.Answers.{judged-bad, judged-well}
 use Rattle.standin.proofs.Whole.{feed-frame, joined-told}
 use Rattle.turns.specs.Hears.{hears, pagesFor}
-
--- ---- a frame with a body of 1 to 256 bytes says what it was built from ----
-
-module _ (start end : ℕ) (body : List ℕ) where
-  pub len-framed : lenOf (frame start end body) ≡ lenByte body
-  unfolding frame
-  len-framed = refl
-
-  module _ (some : 1 ≤ length body) (most : length body ≤ 256) where
-    size-framed : bodySize (lenByte body) ≡ length body
-    unfolding bodySize
-    size-framed = go (eqb (lenByte body) 0) refl
-      where
-        go : (t : Bool) → eqb (lenByte body) 0 ≡ t → cond t 256 (lenByte body) ≡ length body
-        go true e = let z = eqb-true (lenByte body) 0 e in omega arith
-        go false e = let z = eqb-false (lenByte body) 0 e in omega arith
-
-    pub body-framed : bodyOf (frame start end body) ≡ body
-    unfolding frame
-    body-framed = rw size-framed (take-append-seam body (sumByte body ∷ end ∷ []))
-
-    pub end-framed : endOf (frame start end body) ≡ end
-    unfolding frame
-    end-framed =
-        let n : length body + 3 ≡ suc (suc (length body + 1)) = omega arith in
-        rw (size-framed, n) (getD-append-add body (sumByte body ∷ end ∷ []) 1 0)
-
-    pub sum-framed : sumHolds (frame start end body) ≡ true
-    unfolding frame sumByte
-    sum-framed =
-        let f = frame start end body in
-        let n : length body + 2 ≡ suc (suc (length body)) = omega arith in
-        let t = total-frame f (length body) (omega (arith, length-frame start end body)) in
-        let s : byteAt f (length body + 2) ≡ sumByte body = rw n (getD-append-seam body (sumByte body) (end ∷ []) 0) in
-        let b : take (length body) (drop 2 f) ≡ body = take-append-seam body (sumByte body ∷ end ∷ []) in
-        let z : total (take (length body + 2) (drop 1 f)) % 256 ≡ 0 = rw (t, s, b) (omega arith) in
-        rw size-framed (eq-eqb (total (take (length body + 2) (drop 1 f)) % 256) 0 z)
-
-    pub whole-framed : whole (frame start end body) ≡ true
-    unfolding whole
-    whole-framed =
-        let l = length-frame start end body in
-        let z : length (frame start end body) ≡ frameSize (lenOf (frame start end body)) =
-        l ∙ sym (ap frameSize len-framed ∙ frame-size (lenByte body) ∙ ap (λ (k : ℕ). k + 4) size-framed) in
-        rw (le-leb 2 (length (frame start end body)) (omega arith), eq-eqb _ _ z)
 
 -- ---- a stand-in that waits for a command ----
 

@@ -38,7 +38,8 @@ use Rattle.moves.proofs.Replies.{command-one, data-well, sum-reply, sum-in}
 use Rattle.turns.specs.Hears.{hears, pagesFor}
 use Rattle.turns.specs.Turns.{Sized, Fit, mostCounted, Framed, pagesAt, writeOn, verifyOn, StepEnds}
 use Rattle.turns.proofs.Meant.{erase-on, erase-last, erase-stops, later-page, statusOf, memoryAfter, write-on, write-last, write-told, write-means, comparedAt, verify-on, verify-last, verify-means, sum-means}
-use Rattle.turns.proofs.Sent.{whole-framed, waiting-task, rest-waits, hears-erase-free, hears-erase-guarded, hears-program, hears-verify, hears-sum, hears-told, hears-page, hears-last, hears-compare, hears-compared}
+use Rattle.wire.proofs.Built.{whole-framed}
+use Rattle.turns.proofs.Sent.{waiting-task, rest-waits, hears-erase-free, hears-erase-guarded, hears-program, hears-verify, hears-sum, hears-told, hears-page, hears-last, hears-compare, hears-compared}
 use Rattle.turns.proofs.Sizes.{fit-erased, fit-written, step-pages, step-some}
 
 -- ---- a turn, by what is sent, heard and taken in ----

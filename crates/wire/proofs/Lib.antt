@@ -3,3 +3,4 @@ pub mod Sum
 pub mod Frames
 pub mod Buffers
 pub mod Checks
+pub mod Built

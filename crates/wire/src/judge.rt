@@ -14,7 +14,7 @@ ghost use Rattle.wire.specs.Buffer.{frameIn};
 pub fn body_size(len: u8) -> usize
     ensures { λ r. ⌜ (r ≡ bodySize len) × (r ≤ 256) ⌝ }
 {
-    if len == 0 { 256 } else { len as usize }
+    std::num::wrapping_sub_u8(len, 1) as usize + 1
 }
 
 pub fn frame_size(len: u8) -> usize

@@ -7,7 +7,7 @@ use Rattle.printout.proofs.steps.Statement.{statement}
 use Rattle.printout.proofs.steps.Tie as tie
 
 abbrev Inv-loop : tie.InvT-loop
-Inv-loop chip sheet held₀ code₀ data₀ reply₀ frame₀ sums₀ rig₀ counter₀ held code «data» reply frame sums rig counter = (counter ≤ 64) × (length held ≡ 260) × (length code ≡ length code₀) × (length «data» ≡ length data₀) × (length reply ≡ length reply₀) × (length frame ≡ length frame₀) × (length sums ≡ length sums₀)
+Inv-loop chip sheet held₀ code₀ data₀ reply₀ frame₀ sums₀ rig₀ counter₀ held code «data» reply frame sums rig counter = (counter ≤ 64) × (length code ≡ length code₀) × (length «data» ≡ length data₀) × (length reply ≡ length reply₀) × (length frame ≡ length frame₀) × (length sums ≡ length sums₀)
 
 abbrev μ-loop : tie.MeasureT-loop
 μ-loop chip sheet held₀ code₀ data₀ reply₀ frame₀ sums₀ rig₀ counter₀ held code «data» reply frame sums rig counter = 64 - counter

@@ -7,7 +7,7 @@ use Rattle.answers.proofs.chip.send_row.Statement.{statement}
 use Rattle.answers.proofs.chip.send_row.Tie as tie
 
 abbrev Inv-loop : tie.InvT-loop
-Inv-loop row frame₀ code₀ data₀ s₀ count k₀ frame code «data» s k = (k ≤ count) × (length frame ≡ 260) × (length code ≡ length code₀) × (length «data» ≡ length data₀)
+Inv-loop row frame₀ code₀ data₀ s₀ count k₀ frame code «data» s k = (k ≤ count) × (length code ≡ length code₀) × (length «data» ≡ length data₀)
 
 abbrev μ-loop : tie.MeasureT-loop
 μ-loop row frame₀ code₀ data₀ s₀ count k₀ frame code «data» s k = count - k

@@ -31,11 +31,9 @@ start c =
 returns : tie.Need-returns
 returns c =
     let r = c .before .before .before in
-    let s = r .before .before .before .before .before .before .before .before in (
-      s .pre,
-      sym (step-refused (r .before .small .result) (s .args .sheet .now) (start (r .before)) _ (sym (r .refusal .ensures) ∙ c .before .refusal2 .given .1))
-          ∙ ap (λ (x : Chip). stepPlayed x (s .args .sheet .now) (start (r .before))) (r .before .small .ensures),
-    )
+    let s = r .before .before .before .before .before .before .before .before in
+    sym (step-refused (r .before .small .result) (s .args .sheet .now) (start (r .before)) _ (sym (r .refusal .ensures) ∙ c .before .refusal2 .given .1))
+    ∙ ap (λ (x : Chip). stepPlayed x (s .args .sheet .now) (start (r .before))) (r .before .small .ensures)
 
 enum-told : tie.Need-enum-told
 enum-told c = search needs
@@ -47,11 +45,9 @@ returns-2 : tie.Need-returns-2
 returns-2 c =
     let e = c .before .before in
     let r = e .before .before in
-    let s = r .before .before .before .before .before .before .before .before in (
-      s .pre,
-      sym (step-not-begun (r .before .small .result) (s .args .sheet .now) (start (r .before)) (sym (r .refusal .ensures) ∙ e .enum-told .given .1) (sym (c .before .starts-step .ensures) ∙ not-true _ (c .if1 .taken)))
-          ∙ ap (λ (x : Chip). stepPlayed x (s .args .sheet .now) (start (r .before))) (r .before .small .ensures),
-    )
+    let s = r .before .before .before .before .before .before .before .before in
+    sym (step-not-begun (r .before .small .result) (s .args .sheet .now) (start (r .before)) (sym (r .refusal .ensures) ∙ e .enum-told .given .1) (sym (c .before .starts-step .ensures) ∙ not-true _ (c .if1 .taken)))
+    ∙ ap (λ (x : Chip). stepPlayed x (s .args .sheet .now) (start (r .before))) (r .before .small .ensures)
 
 waits-requires : tie.Need-waits-requires
 waits-requires c κs = search needs
@@ -61,11 +57,9 @@ returns-3 c =
     let i = c .before .before .before in
     let e = i .before .before in
     let r = e .before .before in
-    let s = r .before .before .before .before .before .before .before .before in (
-      s .pre,
-      sym (step-busy (r .before .small .result) (s .args .sheet .now) (start (r .before)) (sym (r .refusal .ensures) ∙ e .enum-told .given .1) (sym (i .before .starts-step .ensures) ∙ not-false _ (i .if1 .left)) (sym (c .before .waits .ensures _) ∙ not-true _ (c .if2 .taken)))
-          ∙ ap (λ (x : Chip). stepPlayed x (s .args .sheet .now) (start (r .before))) (r .before .small .ensures),
-    )
+    let s = r .before .before .before .before .before .before .before .before in
+    sym (step-busy (r .before .small .result) (s .args .sheet .now) (start (r .before)) (sym (r .refusal .ensures) ∙ e .enum-told .given .1) (sym (i .before .starts-step .ensures) ∙ not-false _ (i .if1 .left)) (sym (c .before .waits .ensures _) ∙ not-true _ (c .if2 .taken)))
+    ∙ ap (λ (x : Chip). stepPlayed x (s .args .sheet .now) (start (r .before))) (r .before .small .ensures)
 
 step-through-requires : tie.Need-step-through-requires
 step-through-requires c κs =
@@ -73,10 +67,8 @@ step-through-requires c κs =
     let i = w .before .before .before in
     let e = i .before .before in
     let r = e .before .before in
-    let s = r .before .before .before .before .before .before .before .before in (
-      s .pre,
-      starts (r .before .small .result) (s .args .sheet .now) (start (r .before)) (subst Sized (sym (r .before .small .ensures)) small-sized) (sym (r .refusal .ensures) ∙ e .enum-told .given .1) (sym (i .before .starts-step .ensures) ∙ not-false _ (i .if1 .left)) (sym (w .before .waits .ensures _) ∙ not-false _ (w .if2 .left)),
-    )
+    let s = r .before .before .before .before .before .before .before .before in
+    starts (r .before .small .result) (s .args .sheet .now) (start (r .before)) (subst Sized (sym (r .before .small .ensures)) small-sized) (sym (r .refusal .ensures) ∙ e .enum-told .given .1) (sym (i .before .starts-step .ensures) ∙ not-false _ (i .if1 .left)) (sym (w .before .waits .ensures _) ∙ not-false _ (w .if2 .left))
 
 same-length : tie.Need-same-length
 same-length c = search needs
@@ -100,12 +92,10 @@ returns-4 c =
     let i = w .before .before .before in
     let e = i .before .before in
     let r = e .before .before in
-    let s = r .before .before .before .before .before .before .before .before in (
-      t .step-through .ensures .0,
-      ap (outcome Played) (t .step-through .ensures .1)
-          ∙ sym (step-played (r .before .small .result) (s .args .sheet .now) (start (r .before)) (sym (r .refusal .ensures) ∙ e .enum-told .given .1) (sym (i .before .starts-step .ensures) ∙ not-false _ (i .if1 .left)) (sym (w .before .waits .ensures _) ∙ not-false _ (w .if2 .left)))
-          ∙ ap (λ (x : Chip). stepPlayed x (s .args .sheet .now) (start (r .before))) (r .before .small .ensures),
-    )
+    let s = r .before .before .before .before .before .before .before .before in
+    ap (outcome Played) (t .step-through .ensures)
+    ∙ sym (step-played (r .before .small .result) (s .args .sheet .now) (start (r .before)) (sym (r .refusal .ensures) ∙ e .enum-told .given .1) (sym (i .before .starts-step .ensures) ∙ not-false _ (i .if1 .left)) (sym (w .before .waits .ensures _) ∙ not-false _ (w .if2 .left)))
+    ∙ ap (λ (x : Chip). stepPlayed x (s .args .sheet .now) (start (r .before))) (r .before .small .ensures)
 
 pub play-step-spec : {M : Type 1} → statement M
 play-step-spec =

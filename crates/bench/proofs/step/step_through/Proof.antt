@@ -14,7 +14,6 @@ use Rattle.bench.proofs.step.step_through.Tie as tie
 abbrev Inv-loop : tie.InvT-loop
 Inv-loop chip sheet held₀ code₀ data₀ reply₀ frame₀ sums₀ most rig₀ i₀ held code «data» reply frame sums rig i =
     Within chip sheet (rigged rig₀ held₀ code₀ data₀ reply₀ frame₀ sums₀) most i (rigged rig held code «data» reply frame sums)
-    × (length held ≡ 260)
     × (length code ≡ length code₀)
     × (length «data» ≡ length data₀)
     × (length reply ≡ length reply₀)
@@ -36,12 +35,12 @@ loop-holds c =
     let m = c in
     let s = m .before .before .before .before .before .before .before .before .before in
     let e = m .most-frames .ensures .0 ∙ ap mostFrames (m .before .step-at .ensures) in
-    (starting _ _ _ (s .pre .1) _ e, s .pre .0, refl, refl, refl, refl, refl, m .most-frames .ensures .1)
+    (starting _ _ _ (s .pre) _ e, refl, refl, refl, refl, refl, m .most-frames .ensures .1)
 
 turn-requires : tie.Need-turn-requires Inv-loop μ-loop
 turn-requires c κs =
     let l = c .before .before .before .before .before .before .before .loop in
-    (l .inv .1, turnable _ _ _ _ _ _ (l .inv .0))
+    turnable _ _ _ _ _ _ (l .inv .0)
 
 between-requires : tie.Need-between-requires Inv-loop μ-loop
 between-requires c κs = search needs
@@ -81,12 +80,12 @@ returns : tie.Need-returns Inv-loop μ-loop
 returns c =
     let t = c .before .before .before .before .before .before .before .before .before .before .before .before .before in
     let l = t .before .before .before .before .before .before .before .before .loop in
-    (t .turn .ensures .0, ends-here _ _ _ _ _ _ (l .inv .0) _ (t .turn .ensures .1) (sym (c .before .between .ensures) ∙ c .if1 .taken))
+    ends-here _ _ _ _ _ _ (l .inv .0) _ (t .turn .ensures) (sym (c .before .between .ensures) ∙ c .if1 .taken)
 
 add-i : tie.Need-add-i Inv-loop μ-loop
 add-i c =
     let l = c .before .before .before .before .before .before .before .before .before .before .before .before .before .before .before .before .before .before .before .before .before .loop in
-    omega (arith, l .inv .0 .few, l .inv .7)
+    omega (arith, l .inv .0 .few, l .inv .6)
 
 loop-less : tie.Need-loop-less Inv-loop μ-loop
 loop-less c = search needs
@@ -103,14 +102,13 @@ loop-again c =
       frame = rw (kept-frame t) (v .0 .rooms .frame);
       reply = rw (kept-reply t) (v .0 .rooms .reply);
     } in (
-      goes-on _ _ _ _ _ _ (v .0) _ (t .turn .ensures .1) (sym (c .before .between .ensures) ∙ c .if1 .left) rooms,
-      t .turn .ensures .0,
-      kept-code t ∙ v .2,
-      kept-data t ∙ v .3,
-      kept-reply t ∙ v .4,
-      kept-frame t ∙ v .5,
-      kept-sums t ∙ v .6,
-      v .7,
+      goes-on _ _ _ _ _ _ (v .0) _ (t .turn .ensures) (sym (c .before .between .ensures) ∙ c .if1 .left) rooms,
+      kept-code t ∙ v .1,
+      kept-data t ∙ v .2,
+      kept-reply t ∙ v .3,
+      kept-frame t ∙ v .4,
+      kept-sums t ∙ v .5,
+      v .6,
     )
 
 same-length-6 : tie.Need-same-length-6 Inv-loop μ-loop

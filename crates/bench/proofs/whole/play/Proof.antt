@@ -56,7 +56,7 @@ returns c =
     let r = c .before .before .before in
     let n = r .before in
     let s = n .before .before .before .before .before .before .before .before in
-    (s .pre, sym (sheet-refused (n .before .small .result) (s .args .sheet .now) (start n) _ (judged r ∙ c .before .refusal2 .given .1)) ∙ as-called n)
+    sym (sheet-refused (n .before .small .result) (s .args .sheet .now) (start n) _ (judged r ∙ c .before .refusal2 .given .1)) ∙ as-called n
 
 enum-told : tie.Need-enum-told
 enum-told c = search needs
@@ -69,10 +69,8 @@ returns-2 c =
     let e = c .before .before .before in
     let r = e .before .before in
     let n = r .before in
-    let s = n .before .before .before .before .before .before .before .before in (
-      s .pre,
-      sym (sheet-busy (n .before .small .result) (s .args .sheet .now) (start n) (judged r ∙ e .enum-told .given .1) (sym (c .before .waits .ensures _) ∙ not-true _ (c .if1 .taken))) ∙ as-called n,
-    )
+    let s = n .before .before .before .before .before .before .before .before in
+    sym (sheet-busy (n .before .small .result) (s .args .sheet .now) (start n) (judged r ∙ e .enum-told .given .1) (sym (c .before .waits .ensures _) ∙ not-true _ (c .if1 .taken))) ∙ as-called n
 
 steps-through-requires : tie.Need-steps-through-requires
 steps-through-requires c κs =
@@ -80,10 +78,8 @@ steps-through-requires c κs =
     let e = w .before .before .before in
     let r = e .before .before in
     let n = r .before in
-    let s = n .before .before .before .before .before .before .before .before in (
-      s .pre,
-      opens (n .before .small .result) (s .args .sheet .now) (start n) (subst Sized (sym (n .before .small .ensures)) small-sized) (n .new-player .ensures) (judged r ∙ e .enum-told .given .1) (sym (w .before .waits .ensures _) ∙ not-false _ (w .if1 .left)),
-    )
+    let s = n .before .before .before .before .before .before .before .before in
+    opens (n .before .small .result) (s .args .sheet .now) (start n) (subst Sized (sym (n .before .small .ensures)) small-sized) (n .new-player .ensures) (judged r ∙ e .enum-told .given .1) (sym (w .before .waits .ensures _) ∙ not-false _ (w .if1 .left))
 
 same-length : tie.Need-same-length
 same-length c = search needs
@@ -107,12 +103,10 @@ returns-3 c =
     let e = w .before .before .before in
     let r = e .before .before in
     let n = r .before in
-    let s = n .before .before .before .before .before .before .before .before in (
-      t .steps-through .ensures .0,
-      ap (outcome Played) (t .steps-through .ensures .1)
-          ∙ sym (sheet-played (n .before .small .result) (s .args .sheet .now) (start n) (judged r ∙ e .enum-told .given .1) (sym (w .before .waits .ensures _) ∙ not-false _ (w .if1 .left)))
-          ∙ as-called n,
-    )
+    let s = n .before .before .before .before .before .before .before .before in
+    ap (outcome Played) (t .steps-through .ensures)
+    ∙ sym (sheet-played (n .before .small .result) (s .args .sheet .now) (start n) (judged r ∙ e .enum-told .given .1) (sym (w .before .waits .ensures _) ∙ not-false _ (w .if1 .left)))
+    ∙ as-called n
 
 pub play-spec : {M : Type 1} → statement M
 play-spec =

@@ -15,7 +15,6 @@ use Rattle.bench.proofs.whole.steps_through.Tie as tie
 abbrev Inv-loop : tie.InvT-loop
 Inv-loop chip sheet held₀ code₀ data₀ reply₀ frame₀ sums₀ rig₀ n i₀ held code «data» reply frame sums rig i =
     Through chip sheet (rigged rig₀ held₀ code₀ data₀ reply₀ frame₀ sums₀) i (rigged rig held code «data» reply frame sums)
-    × (length held ≡ 260)
     × (length code ≡ length code₀)
     × (length «data» ≡ length data₀)
     × (length reply ≡ length reply₀)
@@ -56,7 +55,7 @@ first c =
 called : (c : tie.After-absorb Inv-loop μ-loop) → let a = c .before .before .before .before .before .before .before .before .before .before .before .before .args in first c ≡ takenIn (a .chip) (a .sheet .now) (start c)
 called c =
     let s = c .before .before .before .before .before .before .before .before .before .before .before .before in
-    first-call (s .args .chip) (s .args .sheet .now) (start c) (s .pre .1 .fresh) _ _ _ (c .absorb .ensures)
+    first-call (s .args .chip) (s .args .sheet .now) (start c) (s .pre .fresh) _ _ _ (c .absorb .ensures)
 
 kept-first : (c : tie.After-absorb Inv-loop μ-loop) → length (c .absorb .last .1 .1 .1 .1 .0) ≡ length (c .before .before .before .before .before .before .before .before .before .before .before .before .args .sums .now)
 kept-first c = search needs
@@ -70,10 +69,10 @@ loop-holds : tie.Need-loop-holds Inv-loop μ-loop
 loop-holds c =
     let t = c .before .before .before in
     let s = t .before .before .before .before .before .before .before .before .before .before .before .before in
-    let o = s .pre .1 in
+    let o = s .pre in
     let rooms : Rooms (s .args .chip) (s .args .sheet .now) (first t) =
     record { accepted = rw (kept-first t) (o .rooms .accepted); frame = o .rooms .frame; reply = o .rooms .reply } in
-    (opening _ _ (start t) o (first t) (called t) rooms, s .pre .0, refl, refl, refl, refl, refl, c .count .ensures .0, c .count .ensures .1)
+    (opening _ _ (start t) o (first t) (called t) rooms, refl, refl, refl, refl, refl, c .count .ensures .0, c .count .ensures .1)
 
 is-over-requires : tie.Need-is-over-requires Inv-loop μ-loop
 is-over-requires c κs = search needs
@@ -97,14 +96,14 @@ returns : tie.Need-returns Inv-loop μ-loop
 returns c =
     let l = c .before .before .before .before .loop in
     let t = c .before .before .before .before .before .before .before .before in
-    (l .inv .1, told-over _ _ _ _ _ (l .inv .0) (sym (c .before .is-over .ensures) ∙ c .if1 .taken) ∙ ended t)
+    told-over _ _ _ _ _ (l .inv .0) (sym (c .before .is-over .ensures) ∙ c .if1 .taken) ∙ ended t
 
 step-through-requires : tie.Need-step-through-requires Inv-loop μ-loop
 step-through-requires c κs =
     let i = c .before .before .before .before .before .before in
     let l = i .before .before .before .before .loop in
     let v = l .inv in
-    (v .1, may-start _ _ _ _ _ (v .0) (omega (arith, i .before .before .before .loop-test .taken, v .7)) (sym (i .before .is-over .ensures) ∙ i .if1 .left))
+    may-start _ _ _ _ _ (v .0) (omega (arith, i .before .before .before .loop-test .taken, v .6)) (sym (i .before .is-over .ensures) ∙ i .if1 .left)
 
 add-i : tie.Need-add-i Inv-loop μ-loop
 add-i c = search needs
@@ -141,15 +140,14 @@ loop-again c =
       frame = rw (kept-frame t) (v .0 .rooms .frame);
       reply = rw (kept-reply t) (v .0 .rooms .reply);
     } in (
-      step-done _ _ _ _ _ (v .0) (omega (arith, i .before .before .before .loop-test .taken, v .7)) (sym (i .before .is-over .ensures) ∙ i .if1 .left) _ (t .step-through .ensures .1) rooms,
-      t .step-through .ensures .0,
-      kept-code t ∙ v .2,
-      kept-data t ∙ v .3,
-      kept-reply t ∙ v .4,
-      kept-frame t ∙ v .5,
-      kept-sums t ∙ v .6,
+      step-done _ _ _ _ _ (v .0) (omega (arith, i .before .before .before .loop-test .taken, v .6)) (sym (i .before .is-over .ensures) ∙ i .if1 .left) _ (t .step-through .ensures) rooms,
+      kept-code t ∙ v .1,
+      kept-data t ∙ v .2,
+      kept-reply t ∙ v .3,
+      kept-frame t ∙ v .4,
+      kept-sums t ∙ v .5,
+      v .6,
       v .7,
-      v .8,
     )
 
 same-length-6 : tie.Need-same-length-6 Inv-loop μ-loop
@@ -171,7 +169,7 @@ returns-2 : tie.Need-returns-2 Inv-loop μ-loop
 returns-2 c =
     let l = c .before .loop in
     let t = c .before .before .before .before .before in
-    (l .inv .1, all-done _ _ _ _ _ (l .inv .0) (omega (arith, c .loop-test .left, l .inv .7)) ∙ ended t)
+    all-done _ _ _ _ _ (l .inv .0) (omega (arith, c .loop-test .left, l .inv .6)) ∙ ended t
 
 pub steps-through-spec : {M : Type 1} → statement M
 steps-through-spec =

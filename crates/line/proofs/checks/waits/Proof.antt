@@ -47,11 +47,12 @@ returns-3 : tie.Need-returns-3
 unfolding waits
 returns-3 c =
     λ m.
-    let x = c .before .before in
+    let w = c .before .before in
+    let x = w .before in
     let e = x .before .before in
     let a = e .before .before .args in
     ap (λ (n : ℕ). eqb n 0) (c .held .ensures .0)
-    ∙ waits-held (a .c .phase) (taskNow (a .chip) (a .c .phase) (a .c .task)) (a .c .have) (a .held .now) (sym (e .before .is-command .ensures) ∙ not-false _ (e .if1 .left)) (idle x ∙ not-false _ (c .before .if2 .left)) (omega (arith, e .before .before .pre))
+    ∙ waits-held (a .c .phase) (taskNow (a .chip) (a .c .phase) (a .c .task)) (a .c .have) (a .held .now) (sym (e .before .is-command .ensures) ∙ not-false _ (e .if1 .left)) (idle x ∙ not-false _ (w .if2 .left)) (omega arith)
 
 pub waits-spec : {M : Type 1} → statement M
 waits-spec =

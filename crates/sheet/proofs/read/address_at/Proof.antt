@@ -1,30 +1,45 @@
--- `sheet::read::address_at` meets its contract: the word, and the third byte. Assumes nothing.
+-- `sheet::read::address_at` meets its contract: the address of its three bytes. Assumes nothing.
+use mathlib.Core.Path.{_≡_, ap}
+use Prim.Native.Nat.{ℕ, _+_, _*_}
+use native.Mathlib.Omega.{arith}
+use Rattle.rules.specs.Chip.{byteAt}
 use borrow.Author.Needs.{needs}
 use Rattle.sheet.proofs.read.address_at.Statement.{statement}
 use Rattle.sheet.proofs.read.address_at.Tie as tie
 
-word-at-requires : tie.Need-word-at-requires
-word-at-requires c κs = search needs
+byte-at-requires : tie.Need-byte-at-requires
+byte-at-requires c κs = search needs
 
 add-byte-at : tie.Need-add-byte-at
 add-byte-at c = search needs
 
-byte-at-requires : tie.Need-byte-at-requires
-byte-at-requires c κs = search needs
+byte-at-requires-2 : tie.Need-byte-at-requires-2
+byte-at-requires-2 c κs = search needs
 
-cast-t6 : tie.Need-cast-t6
-cast-t6 c = search needs
+add-byte-at-2 : tie.Need-add-byte-at-2
+add-byte-at-2 c = search needs
 
-mul-t7 : tie.Need-mul-t7
-mul-t7 c = search needs
+byte-at-requires-3 : tie.Need-byte-at-requires-3
+byte-at-requires-3 c κs = search needs
 
-add-t8 : tie.Need-add-t8
-add-t8 c = search needs
+address-of-requires : tie.Need-address-of-requires
+address-of-requires c κs = search needs
 
 returns : tie.Need-returns
-returns c = cc
+returns c =
+    let a = c .before .before .before .before .before .args in
+    let e : c .address-of .result .0 ≡ byteAt (a .s .now) (a .i) + 256 * byteAt (a .s .now) (a .i + 1) + 65536 * byteAt (a .s .now) (a .i + 2) =
+    omega (arith, c .address-of .ensures, c .before .byte-at3 .ensures, c .before .before .byte-at2 .ensures, c .before .before .before .byte-at .ensures) in
+    ap (λ (n : ℕ). record { 0 = n }) e
 
 pub address-at-spec : {M : Type 1} → statement M
 address-at-spec =
     tie.close
-    (tie.spec word-at-requires add-byte-at byte-at-requires cast-t6 mul-t7 add-t8 returns)
+    (tie.spec
+    byte-at-requires
+    add-byte-at
+    byte-at-requires-2
+    add-byte-at-2
+    byte-at-requires-3
+    address-of-requires
+    returns)

@@ -1,4 +1,5 @@
 -- `sheet::read::entry_at` meets its contract: the fields stand behind the entry's place. Assumes nothing.
+use mathlib.Core.Path.{_∙_}
 use Rattle.sheet.proofs.Fields.{entry-there}
 use borrow.Author.Needs.{needs}
 use Rattle.sheet.proofs.read.entry_at.Statement.{statement}
@@ -7,35 +8,23 @@ use Rattle.sheet.proofs.read.entry_at.Tie as tie
 from-entry-requires : tie.Need-from-entry-requires
 from-entry-requires c κs = search needs
 
-byte-at-requires : tie.Need-byte-at-requires
-byte-at-requires c κs = search needs
-
-address-at-requires : tie.Need-address-at-requires
-address-at-requires c κs = search needs
-
-address-at-requires-2 : tie.Need-address-at-requires-2
-address-at-requires-2 c κs = search needs
-
-byte-at-requires-2 : tie.Need-byte-at-requires-2
-byte-at-requires-2 c κs = search needs
-
-offset-at-requires : tie.Need-offset-at-requires
-offset-at-requires c κs = search needs
+cut-entry-requires : tie.Need-cut-entry-requires
+cut-entry-requires c κs = search needs
 
 returns : tie.Need-returns
 returns c =
-    let x = c .before .before .before .before .before in
-    let f = entry-there (x .before .before .args .sheet .now) (x .before .before .args .i) (x .from-entry .result .now) (x .from-entry .ensures) in
-    cc
+    let f = c .before .before in
+    c .cut-entry .ensures ∙ entry-there (c .before .before .before .before .args .sheet .now) (c .before .before .before .before .args .i) (f .from-entry .result .now) (f .from-entry .ensures)
+
+whole-entry-requires : tie.Need-whole-entry-requires
+whole-entry-requires c κs = search needs
+
+returns-2 : tie.Need-returns-2
+returns-2 c =
+    let f = c .before .before in
+    c .whole-entry .ensures ∙ entry-there (c .before .before .before .before .args .sheet .now) (c .before .before .before .before .args .i) (f .from-entry .result .now) (f .from-entry .ensures)
 
 pub entry-at-spec : {M : Type 1} → statement M
 entry-at-spec =
     tie.close
-    (tie.spec
-    from-entry-requires
-    byte-at-requires
-    address-at-requires
-    address-at-requires-2
-    byte-at-requires-2
-    offset-at-requires
-    returns)
+    (tie.spec from-entry-requires cut-entry-requires returns whole-entry-requires returns-2)

@@ -27,7 +27,7 @@ same-length-3 c = search needs
 returns : tie.Need-returns
 returns c =
     let a = c .before .before .before .before .before .before .before .before .before .before .before .before .before .before .before .before .before .args in
-    c .before .before .before .before .before .before .before .take .ensures .1
+    c .before .before .before .before .before .before .before .take .ensures
     ∙ ap
     (λ (k : Chip). byteCall k (shows (a .d) (memory (now (a .code)) (now (a .«data»)))) (now (a .reply)) (a .byte))
     (c .before .before .before .before .before .before .before .before .before .before .before .before .small .ensures)

@@ -3,15 +3,18 @@ use mathlib.Core.Path.{_≡_, refl, sym, ap, _∙_}
 use mathlib.Core.List.{List, _++_}
 use Prim.Native.Nat.{ℕ, _+_, _-_, _<_, _≤_}
 use native.Mathlib.Omega.{arith}
-use lib.ListN.{length, take, drop, getD, length-drop, take-append-drop}
+use lib.ListN.{length, take, drop, getD, length-drop}
 use denote.Ref.{now}
 use borrow.Author.Needs.{needs}
 use borrow.Rule.Slice.PartMut.{putMid}
+use Rattle.rules.specs.declared.Call.the-variants.{Refused, Answer}
+use Rattle.rules.specs.StandIn.{byteCall}
 use Rattle.flash.specs.Lent.{memory}
 use Rattle.wire.proofs.Buffers.{rest-of, put-rest}
-use Rattle.rules.specs.StandIn.{byteCall}
-use Rattle.standin.specs.View.{view, came}
+use Rattle.engine.specs.View.{view, came}
+use Rattle.engine.specs.Change.{changed, told}
 use Rattle.standin.specs.Feeding.{feeding, feedFrom, fedInto}
+use Rattle.engine.specs.declared.Change.{Change}
 use Rattle.standin.proofs.Onward.{fed-end, fed-on, fed-stop, answer-room}
 use Rattle.standin.proofs.feeding.feed.Statement.{statement}
 use Rattle.standin.proofs.feeding.feed.Tie as tie
@@ -21,7 +24,6 @@ Inv-loop chip bytes frame₀ code₀ data₀ answers₀ core₀ w₀ i₀ frame 
     (feedFrom chip (view core frame (memory code «data»)) answers w i (drop i bytes) ≡ fedInto chip (view core₀ frame₀ (memory code₀ data₀)) answers₀ bytes)
     × (i ≤ length bytes)
     × (w ≤ length answers)
-    × (length frame ≡ 260)
     × (length answers ≡ length answers₀)
     × (length code ≡ length code₀)
     × (length «data» ≡ length data₀)
@@ -32,95 +34,66 @@ abbrev μ-loop : tie.MeasureT-loop
 μ-loop chip bytes frame₀ code₀ data₀ answers₀ core₀ w₀ i₀ frame code «data» answers core w i = length bytes - i
 
 -- the byte call came to what the definition says of the rest of the buffer
-called : (c : tie.After-core Inv-loop μ-loop) → let l = c .before .before .before .before .before .before .before .before .before .before .before .before .before .before .before .before .before .before .loop in let a = c .before .before .before .before .before .before .before .before .before .before .before .before .before .before .before .before .before .before .before .before .before .before .before .args in let t = c .before .before .before .before .before .before .before .take in
-    came (view (t .result .core) (t .last .1 .1 .1 .0) (memory (t .last .1 .1 .1 .1 .0) (t .last .1 .1 .1 .1 .1 .0))) (t .result .call) (t .last .1 .1 .1 .1 .1 .1 .0)
-    ≡ byteCall (a .chip) (view (l .core) (l .frame) (memory (l .code) (l .«data»))) (drop (l .w) (l .answers)) (getD (now (a .bytes)) (l .i) 0)
-called c =
-    let l = c .before .before .before .before .before .before .before .before .before .before .before .before .before .before .before .before .before .before .loop in
-    let a = c .before .before .before .before .before .before .before .before .before .before .before .before .before .before .before .before .before .before .before .before .before .before .before .args in
-    let g = c .before .before .before .before .before .before .before .before .before .before .before .before .before .before .goes-on in
-    let none : g .result ≡ 0 = omega (arith, c .before .before .before .before .before .before .before .before .before .before .before .before .before .if1 .left) in
-    c .before .before .before .before .before .before .before .take .ensures .1
-    ∙ ap (λ (r : List ℕ). byteCall (a .chip) (view (l .core) (g .last .1 .1 .1 .1 .0) (memory (l .code) (l .«data»))) r (getD (now (a .bytes)) (l .i) 0)) (rest-of (l .w) (l .answers))
-    ∙ ap (λ (f : List ℕ). byteCall (a .chip) (view (l .core) f (memory (l .code) (l .«data»))) (drop (l .w) (l .answers)) (getD (now (a .bytes)) (l .i) 0)) (g .ensures .1 .0 none)
+module _ (c : tie.After-slice-known6 Inv-loop μ-loop) (x : Change) (e : c .before .before .before .before .before .before .hear .result ≡ x) where
+  called : let l = c .before .before .before .before .before .before .before .before .before .before .before .before .before .loop in let a = c .before .before .before .before .before .before .before .before .before .before .before .before .before .before .before .before .before .before .args in let t = c .before .before .before .before .before .before .hear in
+      came (view (changed (l .core) x) (t .last .1 .1 .1 .0) (memory (t .last .1 .1 .1 .1 .0) (t .last .1 .1 .1 .1 .1 .0))) (told x) (t .last .1 .1 .1 .1 .1 .1 .0)
+      ≡ byteCall (a .chip) (view (l .core) (l .frame) (memory (l .code) (l .«data»))) (drop (l .w) (l .answers)) (getD (now (a .bytes)) (l .i) 0)
+  called =
+      let l = c .before .before .before .before .before .before .before .before .before .before .before .before .before .loop in
+      let a = c .before .before .before .before .before .before .before .before .before .before .before .before .before .before .before .before .before .before .args in
+      let t = c .before .before .before .before .before .before .hear in
+      ap (λ (y : Change). came (view (changed (l .core) y) (t .last .1 .1 .1 .0) (memory (t .last .1 .1 .1 .1 .0) (t .last .1 .1 .1 .1 .1 .0))) (told y) (t .last .1 .1 .1 .1 .1 .1 .0)) (sym e)
+      ∙ t .ensures
+      ∙ ap (λ (r : List ℕ). byteCall (a .chip) (view (l .core) (l .frame) (memory (l .code) (l .«data»))) r (getD (now (a .bytes)) (l .i) 0)) (rest-of (l .w) (l .answers))
+
+  -- an answer has room in what is left of the buffer
+  left : (k : ℕ) → told x ≡ Answer k → c .before .before .before .before .before .before .before .before .before .before .before .before .before .loop .w + k ≤ length (c .before .before .before .before .before .before .before .before .before .before .before .before .before .loop .answers)
+  left k q =
+      let l = c .before .before .before .before .before .before .before .before .before .before .before .before .before .loop in
+      let r = answer-room _ _ (l .answers) (l .w) (l .i) (now (c .before .before .before .before .before .before .before .before .before .before .before .before .before .before .before .before .before .before .args .bytes)) (c .before .before .before .before .before .before .before .before .before .before .before .before .loop-test .taken) _ _ _ called k q in
+      let d = rw length-drop at r in
+      omega (arith, d, l .inv .2)
+
+  -- and the feeding goes on behind it
+  onward : let l = c .before .before .before .before .before .before .before .before .before .before .before .before .before .loop in let a = c .before .before .before .before .before .before .before .before .before .before .before .before .before .before .before .before .before .before .args in let t = c .before .before .before .before .before .before .hear in
+      (k : ℕ) → told x ≡ Answer k
+      → feedFrom (a .chip) (view (changed (l .core) x) (t .last .1 .1 .1 .0) (memory (t .last .1 .1 .1 .1 .0) (t .last .1 .1 .1 .1 .1 .0))) (putMid (l .w) (length (l .answers) - l .w) (l .answers) (t .last .1 .1 .1 .1 .1 .1 .0)) (l .w + k) (l .i + 1) (drop (l .i + 1) (now (a .bytes)))
+      ≡ fedInto (a .chip) (view (a .c) (now (a .frame)) (memory (now (a .code)) (now (a .«data»)))) (now (a .answers)) (now (a .bytes))
+  onward k q =
+      let l = c .before .before .before .before .before .before .before .before .before .before .before .before .before .loop in
+      let a = c .before .before .before .before .before .before .before .before .before .before .before .before .before .before .before .before .before .before .args in
+      let t = c .before .before .before .before .before .before .hear in
+      ap
+      (λ (y : List ℕ). feedFrom (a .chip) (view (changed (l .core) x) (t .last .1 .1 .1 .0) (memory (t .last .1 .1 .1 .1 .0) (t .last .1 .1 .1 .1 .1 .0))) y (l .w + k) (l .i + 1) (drop (l .i + 1) (now (a .bytes))))
+      (put-rest (l .w) (l .answers) (t .last .1 .1 .1 .1 .1 .1 .0))
+      ∙ fed-on _ _ (l .answers) (l .w) (l .i) (now (a .bytes)) (c .before .before .before .before .before .before .before .before .before .before .before .before .loop-test .taken) _ _ _ called k q
+      ∙ l .inv .0
+
+-- the buffer of answers keeps its length
+kept : (c : tie.After-slice-known6 Inv-loop μ-loop) → let l = c .before .before .before .before .before .before .before .before .before .before .before .before .before .loop in
+    length (putMid (l .w) (length (l .answers) - l .w) (l .answers) (c .before .before .before .before .before .before .hear .last .1 .1 .1 .1 .1 .1 .0)) ≡ length (l .answers)
+kept c = search needs
 
 loop-holds : tie.Need-loop-holds Inv-loop μ-loop
-loop-holds c = (refl, omega arith, omega arith, c .before .before .before .before .pre, refl, refl, refl, omega arith, omega arith)
+loop-holds c = (refl, omega arith, omega arith, refl, refl, refl, omega arith, omega arith)
 
-shared-slice-read-goes-on : tie.Need-shared-slice-read-goes-on Inv-loop μ-loop
-shared-slice-read-goes-on c = search needs
+shared-slice-read-hear : tie.Need-shared-slice-read-hear Inv-loop μ-loop
+shared-slice-read-hear c = search needs
 
-sub-goes-on : tie.Need-sub-goes-on Inv-loop μ-loop
-sub-goes-on c = search needs
+sub-hear : tie.Need-sub-hear Inv-loop μ-loop
+sub-hear c = search needs
 
-goes-on-requires : tie.Need-goes-on-requires Inv-loop μ-loop
-goes-on-requires c κs = search needs
+part-hear-start : tie.Need-part-hear-start Inv-loop μ-loop
+part-hear-start c = search needs
 
--- a byte that only goes on
-add-i : tie.Need-add-i Inv-loop μ-loop
-add-i c = let l = c .before .before .before .before .before .loop in omega (arith, c .before .before .before .before .loop-test .taken, l .inv .8)
+part-hear-end : tie.Need-part-hear-end Inv-loop μ-loop
+part-hear-end c = search needs
 
-loop-less : tie.Need-loop-less Inv-loop μ-loop
-loop-less c = search needs
+hear-requires : tie.Need-hear-requires Inv-loop μ-loop
+hear-requires c κs = search needs
 
-loop-again : tie.Need-loop-again Inv-loop μ-loop
-loop-again c =
-    let l = c .before .before .before .before .before .loop in
-    let a = c .before .before .before .before .before .before .before .before .before .before .args in
-    let g = c .before .goes-on in
-    let h : l .i < length (now (a .bytes)) = c .before .before .before .before .loop-test .taken in
-    let some : g .result ≡ 0 → ⊥ = λ z. omega (arith, c .if1 .taken) in
-    let one = g .ensures .1 .1 some (l .core) (memory (l .code) (l .«data»)) (drop (l .w) (l .answers)) refl refl refl refl (length-drop (l .w) (l .answers)) in
-    let e : l .w + 0 ≡ l .w = omega arith in (
-      ap (λ (x : List ℕ). feedFrom (a .chip) (view (record { phase = l .core .phase; task = l .core .task; options = l .core .options; have = g .result }) (g .last .1 .1 .1 .1 .0) (memory (l .code) (l .«data»))) x (l .w) (l .i + 1) (drop (l .i + 1) (now (a .bytes)))) (sym (take-append-drop (l .w) (l .answers)))
-          ∙ ap (λ (k : ℕ). feedFrom (a .chip) (view (record { phase = l .core .phase; task = l .core .task; options = l .core .options; have = g .result }) (g .last .1 .1 .1 .1 .0) (memory (l .code) (l .«data»))) (take (l .w) (l .answers) ++ drop (l .w) (l .answers)) k (l .i + 1) (drop (l .i + 1) (now (a .bytes)))) (sym e)
-          ∙ fed-on _ _ (l .answers) (l .w) (l .i) (now (a .bytes)) h _ _ _ one 0 refl
-          ∙ l .inv .0,
-      omega (arith, h),
-      l .inv .2,
-      g .ensures .0,
-      l .inv .4,
-      l .inv .5,
-      l .inv .6,
-      l .inv .7,
-      l .inv .8,
-    )
-
-shared-slice-read-take : tie.Need-shared-slice-read-take Inv-loop μ-loop
-shared-slice-read-take c = search needs
-
-sub-take : tie.Need-sub-take Inv-loop μ-loop
-sub-take c = search needs
-
-part-take-start : tie.Need-part-take-start Inv-loop μ-loop
-part-take-start c = search needs
-
-part-take-end : tie.Need-part-take-end Inv-loop μ-loop
-part-take-end c = search needs
-
-take-requires : tie.Need-take-requires Inv-loop μ-loop
-take-requires c κs = search needs
-
-enum-known-call : tie.Need-enum-known-call Inv-loop μ-loop
-enum-known-call c = search needs
-
--- an answer has room in what is left of the buffer
-left : (c : tie.After-known-told Inv-loop μ-loop) → let l = c .before .before .before .before .before .before .before .before .before .before .before .before .before .before .before .before .before .before .before .before .before .loop in l .w + c .before .call .given .0 .0 ≤ length (l .answers)
-left c =
-    let k = c .before .before .before in
-    let l = c .before .before .before .before .before .before .before .before .before .before .before .before .before .before .before .before .before .before .before .before .before .loop in
-    let a = c .before .before .before .before .before .before .before .before .before .before .before .before .before .before .before .before .before .before .before .before .before .before .before .before .before .before .args in
-    let h : l .i < length (now (a .bytes)) = c .before .before .before .before .before .before .before .before .before .before .before .before .before .before .before .before .before .before .before .before .loop-test .taken in
-    let r = answer-room _ _ (l .answers) (l .w) (l .i) (now (a .bytes)) h _ _ _ (called k) _ (c .before .call .given .1) in
-    let q = rw length-drop at r in
-    let v = l .inv .2 in
-    omega (arith, r, q, v)
-
-add-w : tie.Need-add-w Inv-loop μ-loop
-add-w c = let b = c .before .before .before .before .before .before .before .before .before .before .before .before .before .before .before .before .before .before .before .before .before .loop .inv .7 in omega (arith, left c, b)
-
-enum-told : tie.Need-enum-told Inv-loop μ-loop
-enum-told c = search needs
+enum-known-changed : tie.Need-enum-known-changed Inv-loop μ-loop
+enum-known-changed c = search needs
 
 same-length : tie.Need-same-length Inv-loop μ-loop
 same-length c = search needs
@@ -133,51 +106,70 @@ same-length-3 c = search needs
 
 returns : tie.Need-returns Inv-loop μ-loop
 returns c =
-    let k = c .before .before in
-    let l = k .before .before .before .before .before .before .before .before .before .before .before .before .before .before .before .before .before .before .loop in
-    let a = k .before .before .before .before .before .before .before .before .before .before .before .before .before .before .before .before .before .before .before .before .before .before .before .args in
-    let t = k .before .before .before .before .before .before .before .take in
-    let h : l .i < length (now (a .bytes)) = k .before .before .before .before .before .before .before .before .before .before .before .before .before .before .before .before .before .loop-test .taken in (
-      t .ensures .0,
-      ap
-          (λ (x : List ℕ). feeding (view (t .result .core) (t .last .1 .1 .1 .0) (memory (t .last .1 .1 .1 .1 .0) (t .last .1 .1 .1 .1 .1 .0))) (t .result .call) (l .i) x)
-          (put-rest (l .w) (l .answers) (t .last .1 .1 .1 .1 .1 .1 .0))
-          ∙ fed-stop _ _ (l .answers) (l .w) (l .i) (now (a .bytes)) h _ _ _ (called k) _ (c .enum-told .given .1)
-          ∙ l .inv .0,
+    let k = c .before .before .before in
+    let l = k .before .before .before .before .before .before .before .before .before .before .before .before .before .loop in
+    let a = k .before .before .before .before .before .before .before .before .before .before .before .before .before .before .before .before .before .before .args in
+    let t = k .before .before .before .before .before .before .hear in
+    ap
+    (λ (x : List ℕ). feeding (view (l .core) (t .last .1 .1 .1 .0) (memory (t .last .1 .1 .1 .1 .0) (t .last .1 .1 .1 .1 .1 .0))) (Refused (c .before .changed .given .0 .0)) (l .i) x)
+    (put-rest (l .w) (l .answers) (t .last .1 .1 .1 .1 .1 .1 .0))
+    ∙ fed-stop _ _ (l .answers) (l .w) (l .i) (now (a .bytes)) (k .before .before .before .before .before .before .before .before .before .before .before .before .loop-test .taken) _ _ _ (called k _ (c .before .changed .given .1)) _ refl
+    ∙ l .inv .0
+
+enum-known-changed-2 : tie.Need-enum-known-changed-2 Inv-loop μ-loop
+enum-known-changed-2 c = search needs
+
+add-i : tie.Need-add-i Inv-loop μ-loop
+add-i c = let b = c .before .before .before .before .before .before .before .before .before .before .before .before .before .before .before .before .loop .inv .7 in omega (arith, c .before .before .before .before .before .before .before .before .before .before .before .before .before .before .before .loop-test .taken, b)
+
+loop-less : tie.Need-loop-less Inv-loop μ-loop
+loop-less c = search needs
+
+loop-again : tie.Need-loop-again Inv-loop μ-loop
+loop-again c =
+    let k = c .before .before .before in
+    let l = k .before .before .before .before .before .before .before .before .before .before .before .before .before .loop in
+    let t = k .before .before .before .before .before .before .hear in
+    let e : l .w + 0 ≡ l .w = omega arith in (
+      rw e at (onward k _ (c .before .changed2 .given .1) 0 refl),
+      omega (arith, k .before .before .before .before .before .before .before .before .before .before .before .before .loop-test .taken),
+      rw (kept k) (l .inv .2),
+      kept k ∙ l .inv .3,
+      search needs,
+      search needs,
+      rw (kept k) (l .inv .6),
+      l .inv .7,
     )
 
+enum-known-changed-3 : tie.Need-enum-known-changed-3 Inv-loop μ-loop
+enum-known-changed-3 c = search needs
+
+add-w : tie.Need-add-w Inv-loop μ-loop
+add-w c =
+    let l = c .before .before .before .before .before .before .before .before .before .before .before .before .before .before .before .before .before .before .loop in
+    let r = left (c .before .before .before .before .before) _ (c .before .before .before .changed3 .given .1) _ refl in
+    omega (arith, r, l .inv .6)
+
 add-i-2 : tie.Need-add-i-2 Inv-loop μ-loop
-add-i-2 c = let b = c .before .before .before .before .before .before .before .before .before .before .before .before .before .before .before .before .before .before .before .before .before .loop .inv .8 in omega (arith, c .before .before .before .before .before .before .before .before .before .before .before .before .before .before .before .before .before .before .before .before .loop-test .taken, b)
+add-i-2 c = let b = c .before .before .before .before .before .before .before .before .before .before .before .before .before .before .before .before .before .before .loop .inv .7 in omega (arith, c .before .before .before .before .before .before .before .before .before .before .before .before .before .before .before .before .before .loop-test .taken, b)
 
 loop-less-2 : tie.Need-loop-less-2 Inv-loop μ-loop
 loop-less-2 c = search needs
 
--- the buffer of answers keeps its length
-kept : (c : tie.After-known-told Inv-loop μ-loop) → let l = c .before .before .before .before .before .before .before .before .before .before .before .before .before .before .before .before .before .before .before .before .before .loop in let t = c .before .before .before .before .before .before .before .before .before .before .take in
-    length (putMid (l .w) (length (l .answers) - l .w) (l .answers) (t .last .1 .1 .1 .1 .1 .1 .0)) ≡ length (l .answers)
-kept c = search needs
-
 loop-again-2 : tie.Need-loop-again-2 Inv-loop μ-loop
 loop-again-2 c =
-    let k = c .before .before .before in
-    let l = c .before .before .before .before .before .before .before .before .before .before .before .before .before .before .before .before .before .before .before .before .before .loop in
-    let a = c .before .before .before .before .before .before .before .before .before .before .before .before .before .before .before .before .before .before .before .before .before .before .before .before .before .before .args in
-    let t = c .before .before .before .before .before .before .before .before .before .before .take in
-    let h : l .i < length (now (a .bytes)) = c .before .before .before .before .before .before .before .before .before .before .before .before .before .before .before .before .before .before .before .before .loop-test .taken in
-    let r = left c in (
-      ap
-          (λ (x : List ℕ). feedFrom (a .chip) (view (t .result .core) (t .last .1 .1 .1 .0) (memory (t .last .1 .1 .1 .1 .0) (t .last .1 .1 .1 .1 .1 .0))) x (l .w + c .before .call .given .0 .0) (l .i + 1) (drop (l .i + 1) (now (a .bytes))))
-          (put-rest (l .w) (l .answers) (t .last .1 .1 .1 .1 .1 .1 .0))
-          ∙ fed-on _ _ (l .answers) (l .w) (l .i) (now (a .bytes)) h _ _ _ (called k) _ (c .before .call .given .1)
-          ∙ l .inv .0,
-      omega (arith, h),
-      rw (kept c) r,
-      t .ensures .0,
-      kept c ∙ l .inv .4,
+    let k = c .before .before .before .before .before in
+    let l = k .before .before .before .before .before .before .before .before .before .before .before .before .before .loop in
+    let t = k .before .before .before .before .before .before .hear in
+    let r = left k _ (c .before .before .before .changed3 .given .1) _ refl in (
+      onward k _ (c .before .before .before .changed3 .given .1) _ refl,
+      omega (arith, k .before .before .before .before .before .before .before .before .before .before .before .before .loop-test .taken),
+      rw (kept k) r,
+      kept k ∙ l .inv .3,
       search needs,
       search needs,
-      rw (kept c) (l .inv .7),
-      l .inv .8,
+      rw (kept k) (l .inv .6),
+      l .inv .7,
     )
 
 same-length-4 : tie.Need-same-length-4 Inv-loop μ-loop
@@ -193,7 +185,7 @@ returns-2 : tie.Need-returns-2 Inv-loop μ-loop
 returns-2 c =
     let l = c .before .loop in
     let a = c .before .before .before .before .before .before .args in
-    (l .inv .3, fed-end (a .chip) _ (l .answers) (l .w) (l .i) (now (a .bytes)) (c .loop-test .left) ∙ l .inv .0)
+    fed-end (a .chip) _ (l .answers) (l .w) (l .i) (now (a .bytes)) (c .loop-test .left) ∙ l .inv .0
 
 pub feed-spec : {M : Type 1} → statement M
 feed-spec =
@@ -202,24 +194,22 @@ feed-spec =
     Inv-loop
     μ-loop
     loop-holds
-    shared-slice-read-goes-on
-    sub-goes-on
-    goes-on-requires
-    add-i
-    loop-less
-    loop-again
-    shared-slice-read-take
-    sub-take
-    part-take-start
-    part-take-end
-    take-requires
-    enum-known-call
-    add-w
-    enum-told
+    shared-slice-read-hear
+    sub-hear
+    part-hear-start
+    part-hear-end
+    hear-requires
+    enum-known-changed
     same-length
     same-length-2
     same-length-3
     returns
+    enum-known-changed-2
+    add-i
+    loop-less
+    loop-again
+    enum-known-changed-3
+    add-w
     add-i-2
     loop-less-2
     loop-again-2

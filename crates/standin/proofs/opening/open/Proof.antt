@@ -4,7 +4,7 @@ use mathlib.Core.List.{List}
 use Prim.Native.Nat.{ℕ}
 use denote.Ref.{now}
 use Rattle.flash.specs.Lent.{memory}
-use Rattle.standin.specs.View.{view}
+use Rattle.engine.specs.View.{view}
 use Rattle.standin.specs.Feeding.{fedInto}
 use Rattle.standin.proofs.Opens.{with-ident, without-ident}
 use borrow.Author.Needs.{needs}
@@ -35,13 +35,11 @@ same-length-3 c = search needs
 returns : tie.Need-returns
 returns c =
     let a = c .before .before .before .before .before .before .before .before .before .before .before .before .before .before .before .before .before .before .before .args in
-    let f = c .before .before .before .before .before .before .feed in (
-      f .ensures .0,
-      f .ensures .1
-          ∙ ap
-          (λ (x : List ℕ). fedInto (a .chip) (view (a .c) (now (a .frame)) (memory (now (a .code)) (now (a .«data»)))) (now (a .answers)) x)
-          (with-ident (a .c .options) (now (a .id)) _ (c .before .before .before .before .before .before .before .before .before .before .before .before .before .before .before .all-bytes .ensures) (sym (c .before .before .before .before .before .before .before .before .before .before .before .before .iden .ensures) ∙ c .before .before .before .before .before .before .before .before .before .before .before .if1 .taken)),
-    )
+    let f = c .before .before .before .before .before .before .feed in
+    f .ensures
+    ∙ ap
+    (λ (x : List ℕ). fedInto (a .chip) (view (a .c) (now (a .frame)) (memory (now (a .code)) (now (a .«data»)))) (now (a .answers)) x)
+    (with-ident (a .c .options) (now (a .id)) _ (c .before .before .before .before .before .before .before .before .before .before .before .before .before .before .before .all-bytes .ensures) (sym (c .before .before .before .before .before .before .before .before .before .before .before .before .iden .ensures) ∙ c .before .before .before .before .before .before .before .before .before .before .before .if1 .taken))
 
 sub-feed : tie.Need-sub-feed
 sub-feed c = search needs
@@ -67,13 +65,11 @@ same-length-6 c = search needs
 returns-2 : tie.Need-returns-2
 returns-2 c =
     let a = c .before .before .before .before .before .before .before .before .before .before .before .before .before .before .before .before .before .before .before .before .args in
-    let f = c .before .before .before .before .before .before .feed2 in (
-      f .ensures .0,
-      f .ensures .1
-          ∙ ap
-          (λ (x : List ℕ). fedInto (a .chip) (view (a .c) (now (a .frame)) (memory (now (a .code)) (now (a .«data»)))) (now (a .answers)) x)
-          (without-ident (a .c .options) (now (a .id)) _ (c .before .before .before .before .before .before .before .before .before .before .before .before .before .before .before .before .all-bytes .ensures) (λ z. c .before .before .before .before .before .before .before .before .before .before .before .before .if1 .left (c .before .before .before .before .before .before .before .before .before .before .before .before .before .iden .ensures ∙ z))),
-    )
+    let f = c .before .before .before .before .before .before .feed2 in
+    f .ensures
+    ∙ ap
+    (λ (x : List ℕ). fedInto (a .chip) (view (a .c) (now (a .frame)) (memory (now (a .code)) (now (a .«data»)))) (now (a .answers)) x)
+    (without-ident (a .c .options) (now (a .id)) _ (c .before .before .before .before .before .before .before .before .before .before .before .before .before .before .before .before .all-bytes .ensures) (λ z. c .before .before .before .before .before .before .before .before .before .before .before .before .if1 .left (c .before .before .before .before .before .before .before .before .before .before .before .before .before .iden .ensures ∙ z)))
 
 pub open-spec : {M : Type 1} → statement M
 open-spec =

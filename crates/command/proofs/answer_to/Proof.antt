@@ -32,7 +32,7 @@ returns c =
     let s = c .before .before .before .before .before .before .before .before .before .before .before in
     let a = s .args in
     let m = memory (now (a .code)) (now (a .«data»)) in
-    let law = speed (a .chip) (a .c) m (now (a .frame)) (s .pre .0) (cc) in
+    let law = speed (a .chip) (a .c) m (now (a .frame)) (s .pre .0) (c .before .before .before .before .before .if1 .taken) in
     answered-as _ _ _ _ law (c .before .before .put-frame .ensures ∙ frame-bytes _ _ _ _ (omega arith) (omega arith))
 
 element-copy-out-security-set : tie.Need-element-copy-out-security-set
@@ -52,7 +52,7 @@ returns-2 c =
     let s = c .before .before .before .before .before .before .before .before .before .before .before .before in
     let a = s .args in
     let m = memory (now (a .code)) (now (a .«data»)) in
-    let law = silenced (a .chip) (a .c) m (now (a .frame)) (s .pre .0) (cc) (cc) in
+    let law = silenced (a .chip) (a .c) m (now (a .frame)) (s .pre .0) (c .before .before .before .before .before .if2 .taken) (ap (λ (o : Options). IFPR o) (sym (c .before .before .security-set .ensures)) ∙ sym (c .before .ifpr .ensures) ∙ c .if3 .taken) in
     answered-as _ _ _ _ law (sym (no-answer (now (a .reply))))
 
 put-one-requires : tie.Need-put-one-requires
@@ -66,7 +66,7 @@ returns-3 c =
     let s = c .before .before .before .before .before .before .before .before .before .before .before .before .before .before .before .before in
     let a = s .args in
     let m = memory (now (a .code)) (now (a .«data»)) in
-    let law = security (a .chip) (a .c) m (now (a .frame)) (s .pre .0) (cc) (λ z. c .before .before .before .before .if3 .left (c .before .before .before .before .before .ifpr .ensures ∙ ap (λ (o : Options). IFPR o) (c .before .before .before .before .before .before .security-set .ensures) ∙ z)) in
+    let law = security (a .chip) (a .c) m (now (a .frame)) (s .pre .0) (c .before .before .before .before .before .before .before .before .before .if2 .taken) (λ z. c .before .before .before .before .if3 .left (c .before .before .before .before .before .ifpr .ensures ∙ ap (λ (o : Options). IFPR o) (c .before .before .before .before .before .before .security-set .ensures) ∙ z)) in
     answered-as _ _ _ _ law (c .before .before .put-one .ensures)
 
 shown-sf1-requires : tie.Need-shown-sf1-requires
@@ -89,7 +89,7 @@ returns-4 c =
     let s = c .before .before .before .before .before .before .before .before .before .before .before .before .before .before .before in
     let a = s .args in
     let m = memory (now (a .code)) (now (a .«data»)) in
-    let law = flags (a .chip) (a .c) m (now (a .frame)) (s .pre .0) (cc) in
+    let law = flags (a .chip) (a .c) m (now (a .frame)) (s .pre .0) (c .before .before .before .before .before .before .before .if4 .taken) in
     answered-as _ _ _ _ law (c .before .before .put-ack-and .ensures ∙ told-as _ _ _ (cc) (omega arith) (omega arith) (s .pre .1 .room))
 
 shown-sws-requires : tie.Need-shown-sws-requires
@@ -124,7 +124,7 @@ returns-5 c =
     let s = c .before .before .before .before .before .before .before .before .before .before .before .before .before .before .before .before in
     let a = s .args in
     let m = memory (now (a .code)) (now (a .«data»)) in
-    let law = windowed (a .chip) (a .c) m (now (a .frame)) (s .pre .0) (cc) in
+    let law = windowed (a .chip) (a .c) m (now (a .frame)) (s .pre .0) (c .before .before .before .before .before .before .before .if5 .taken) in
     answered-as _ _ _ _ law (c .before .before .put-ack-and2 .ensures ∙ told-as _ _ _ (cc) (omega arith) (omega arith) (s .pre .1 .room))
 
 address-at-requires : tie.Need-address-at-requires
@@ -156,7 +156,7 @@ returns-6 c =
     let s = c .before .before .before .before .before .before .before .before .before .before .before .before .before .before .before .before .before .before in
     let a = s .args in
     let m = memory (now (a .code)) (now (a .«data»)) in
-    let law = sum (a .chip) (a .c) m (now (a .frame)) (s .pre .0) (cc) in
+    let law = sum (a .chip) (a .c) m (now (a .frame)) (s .pre .0) (c .before .before .before .before .before .before .before .before .if6 .taken) in
     answered-as _ _ _ _ law (c .before .before .put-ack-and3 .ensures ∙ told-as _ _ _ (cc) (omega arith) (omega arith) (s .pre .1 .room))
 
 put-one-requires-2 : tie.Need-put-one-requires-2

@@ -3,13 +3,25 @@ use denote.Ref.{now}
 use Prim.Native.Nat.{ℕ}
 use mathlib.Core.Path.{_≡_, refl, sym, ap, _∙_}
 use Rattle.rules.specs.declared.Options.{Options}
-use Rattle.rules.specs.Options.{IFPR}
+use Rattle.rules.specs.declared.Address.{Address}
+use Rattle.rules.specs.declared.Pages.{Pages}
+use Rattle.rules.specs.declared.Phase.{Phase}
+use Rattle.rules.specs.declared.Phase.the-variants.{Silent}
+use Rattle.rules.specs.declared.Task.{Task}
+use Rattle.rules.specs.declared.Task.the-variants.{Idle, Programming, Verifying}
+use Rattle.rules.specs.Chip.{wordAt, addressAt, range}
+use Rattle.rules.specs.Options.{IFPR, windowSet}
+use Rattle.rules.specs.StandIn.{pagesOf}
 use Rattle.device.specs.declared.Core.{Core}
 use Rattle.rules.specs.Command.{codeOf}
 use Rattle.command.proofs.Results.{verify, programming, speed, ident, security, silenced, released, window, settled-as, stayed}
 use borrow.Author.Needs.{needs}
 use Rattle.command.proofs.core_after.Statement.{statement}
 use Rattle.command.proofs.core_after.Tie as tie
+
+-- the device that is settled
+abbrev core : Phase → Task → Options → Core
+core p t o = record { phase = p; task = t; options = o; have = 0 }
 
 element-copy-out-code : tie.Need-element-copy-out-code
 element-copy-out-code c = search needs
@@ -33,7 +45,10 @@ returns : tie.Need-returns
 returns c =
     let s = c .before .before .before .before .before .before .before .before in
     let a = s .args in
-    (λ m. settled-as (c .settled .result) _ _ (verify (a .chip) (a .c) m (now (a .frame)) (s .pre) (cc)) refl (cc), ap (λ (x : Core). x .have) (c .settled .ensures))
+    let pages =
+    c .before .pages-of .ensures
+    ∙ ap pagesOf (c .before .before .range .ensures ∙ ap (λ (x : Address). range (a .chip) x (c .before .before .before .address-at2 .result)) (c .before .before .before .before .address-at .ensures) ∙ ap (λ (x : Address). range (a .chip) (addressAt (now (a .frame)) 3) x) (c .before .before .before .address-at2 .ensures)) in
+    (λ m. settled-as (c .settled .result) _ _ (verify (a .chip) (a .c) m (now (a .frame)) (s .pre) (c .before .before .before .before .before .if1 .taken)) refl (c .settled .ensures ∙ ap (λ (p : Pages). core (a .c .phase) (Verifying p) (a .c .options)) pages), ap (λ (x : Core). x .have) (c .settled .ensures))
 
 address-at-requires-3 : tie.Need-address-at-requires-3
 address-at-requires-3 c κs = search needs
@@ -54,7 +69,10 @@ returns-2 : tie.Need-returns-2
 returns-2 c =
     let s = c .before .before .before .before .before .before .before .before .before in
     let a = s .args in
-    (λ m. settled-as (c .settled2 .result) _ _ (programming (a .chip) (a .c) m (now (a .frame)) (s .pre) (cc)) refl (cc), ap (λ (x : Core). x .have) (c .settled2 .ensures))
+    let pages =
+    c .before .pages-of2 .ensures
+    ∙ ap pagesOf (c .before .before .range2 .ensures ∙ ap (λ (x : Address). range (a .chip) x (c .before .before .before .address-at4 .result)) (c .before .before .before .before .address-at3 .ensures) ∙ ap (λ (x : Address). range (a .chip) (addressAt (now (a .frame)) 3) x) (c .before .before .before .address-at4 .ensures)) in
+    (λ m. settled-as (c .settled2 .result) _ _ (programming (a .chip) (a .c) m (now (a .frame)) (s .pre) (c .before .before .before .before .before .if2 .taken)) refl (c .settled2 .ensures ∙ ap (λ (p : Pages). core (a .c .phase) (Programming p) (a .c .options)) pages), ap (λ (x : Core). x .have) (c .settled2 .ensures))
 
 after-speed-requires : tie.Need-after-speed-requires
 after-speed-requires c κs = search needs
@@ -66,7 +84,7 @@ returns-3 : tie.Need-returns-3
 returns-3 c =
     let s = c .before .before .before .before .before .before .before in
     let a = s .args in
-    (λ m. settled-as (c .settled3 .result) _ _ (speed (a .chip) (a .c) m (now (a .frame)) (s .pre) (cc)) refl (cc), ap (λ (x : Core). x .have) (c .settled3 .ensures))
+    (λ m. settled-as (c .settled3 .result) _ _ (speed (a .chip) (a .c) m (now (a .frame)) (s .pre) (c .before .before .if3 .taken)) refl (c .settled3 .ensures ∙ ap (λ (p : Phase). core p Idle (a .c .options)) (c .before .after-speed .ensures)), ap (λ (x : Core). x .have) (c .settled3 .ensures))
 
 settled-requires-4 : tie.Need-settled-requires-4
 settled-requires-4 c κs = search needs
@@ -75,7 +93,7 @@ returns-4 : tie.Need-returns-4
 returns-4 c =
     let s = c .before .before .before .before .before .before .before in
     let a = s .args in
-    (λ m. settled-as (c .settled4 .result) _ _ (ident (a .chip) (a .c) m (now (a .frame)) (s .pre) (cc)) refl (cc), ap (λ (x : Core). x .have) (c .settled4 .ensures))
+    (λ m. settled-as (c .settled4 .result) _ _ (ident (a .chip) (a .c) m (now (a .frame)) (s .pre) (c .before .if4 .taken)) refl (c .settled4 .ensures), ap (λ (x : Core). x .have) (c .settled4 .ensures))
 
 element-copy-out-security-set : tie.Need-element-copy-out-security-set
 element-copy-out-security-set c = search needs
@@ -96,7 +114,8 @@ returns-5 : tie.Need-returns-5
 returns-5 c =
     let s = c .before .before .before .before .before .before .before .before .before .before .before .before .before in
     let a = s .args in
-    (λ m. settled-as (c .settled5 .result) _ _ (silenced (a .chip) (a .c) m (now (a .frame)) (s .pre) (cc) (cc)) refl (cc), ap (λ (x : Core). x .have) (c .settled5 .ensures))
+    let set = c .before .before .before .security-set .ensures in
+    (λ m. settled-as (c .settled5 .result) _ _ (silenced (a .chip) (a .c) m (now (a .frame)) (s .pre) (c .before .before .before .before .before .before .if5 .taken) (ap (λ (o : Options). IFPR o) (sym set) ∙ sym (c .before .before .ifpr .ensures) ∙ c .before .if6 .taken)) refl (c .settled5 .ensures ∙ ap (λ (o : Options). core Silent Idle o) set), ap (λ (x : Core). x .have) (c .settled5 .ensures))
 
 settled-requires-6 : tie.Need-settled-requires-6
 settled-requires-6 c κs = search needs
@@ -105,7 +124,8 @@ returns-6 : tie.Need-returns-6
 returns-6 c =
     let s = c .before .before .before .before .before .before .before .before .before .before .before .before .before in
     let a = s .args in
-    (λ m. settled-as (c .settled6 .result) _ _ (security (a .chip) (a .c) m (now (a .frame)) (s .pre) (cc) (λ z. c .before .if6 .left (c .before .before .ifpr .ensures ∙ ap (λ (o : Options). IFPR o) (c .before .before .before .security-set .ensures) ∙ z))) refl (cc), ap (λ (x : Core). x .have) (c .settled6 .ensures))
+    let set = c .before .before .before .security-set .ensures in
+    (λ m. settled-as (c .settled6 .result) _ _ (security (a .chip) (a .c) m (now (a .frame)) (s .pre) (c .before .before .before .before .before .before .if5 .taken) (λ z. c .before .if6 .left (c .before .before .ifpr .ensures ∙ ap (λ (o : Options). IFPR o) set ∙ z))) refl (c .settled6 .ensures ∙ ap (λ (o : Options). core (a .c .phase) Idle o) set), ap (λ (x : Core). x .have) (c .settled6 .ensures))
 
 release-requires : tie.Need-release-requires
 release-requires c κs = search needs
@@ -117,7 +137,7 @@ returns-7 : tie.Need-returns-7
 returns-7 c =
     let s = c .before .before .before .before .before .before .before .before .before .before in
     let a = s .args in
-    (λ m. settled-as (c .settled7 .result) _ _ (released (a .chip) (a .c) m (now (a .frame)) (s .pre) (cc)) refl (cc), ap (λ (x : Core). x .have) (c .settled7 .ensures))
+    (λ m. settled-as (c .settled7 .result) _ _ (released (a .chip) (a .c) m (now (a .frame)) (s .pre) (c .before .before .if7 .taken)) refl (c .settled7 .ensures ∙ ap (λ (o : Options). core (a .c .phase) Idle o) (c .before .release .ensures)), ap (λ (x : Core). x .have) (c .settled7 .ensures))
 
 word-at-requires : tie.Need-word-at-requires
 word-at-requires c κs = search needs
@@ -135,7 +155,11 @@ returns-8 : tie.Need-returns-8
 returns-8 c =
     let s = c .before .before .before .before .before .before .before .before .before .before .before .before .before in
     let a = s .args in
-    (λ m. settled-as (c .settled8 .result) _ _ (window (a .chip) (a .c) m (now (a .frame)) (s .pre) (cc)) refl (cc), ap (λ (x : Core). x .have) (c .settled8 .ensures))
+    let set =
+    c .before .window-set .ensures
+    ∙ ap (λ (x : ℕ). windowSet x (c .before .before .word-at2 .result) (a .c .options)) (c .before .before .before .word-at .ensures)
+    ∙ ap (λ (x : ℕ). windowSet (wordAt (now (a .frame)) 3) x (a .c .options)) (c .before .before .word-at2 .ensures) in
+    (λ m. settled-as (c .settled8 .result) _ _ (window (a .chip) (a .c) m (now (a .frame)) (s .pre) (c .before .before .before .before .if8 .taken)) refl (c .settled8 .ensures ∙ ap (λ (o : Options). core (a .c .phase) Idle o) set), ap (λ (x : Core). x .have) (c .settled8 .ensures))
 
 settled-requires-9 : tie.Need-settled-requires-9
 settled-requires-9 c κs = search needs

@@ -58,19 +58,11 @@ fn core_after(chip: Chip, c: Core, frame: &[u8; 260]) -> Core
     let o = c.options;
     let code = frame[2];
     if code == 0x13 {
-        let range = flash::finder::range(
-            chip,
-            verdict::address_at(frame, 3),
-            verdict::address_at(frame, 6),
-        );
+        let range = flash::finder::range(chip, verdict::sad_of(frame), verdict::ead_of(frame));
         return settled(phase, Task::Verifying(tasks::pages_of(range)), o);
     }
     if code == 0x40 {
-        let range = flash::finder::range(
-            chip,
-            verdict::address_at(frame, 3),
-            verdict::address_at(frame, 6),
-        );
+        let range = flash::finder::range(chip, verdict::sad_of(frame), verdict::ead_of(frame));
         return settled(phase, Task::Programming(tasks::pages_of(range)), o);
     }
     if code == 0x9A {
@@ -157,8 +149,8 @@ fn answer_to<'a>(
     if cmd == 0xB0 {
         let sum = sum_over(
             chip,
-            verdict::address_at(frame, 3),
-            verdict::address_at(frame, 6),
+            verdict::sad_of(frame),
+            verdict::ead_of(frame),
             code,
             data,
         );
@@ -175,7 +167,7 @@ fn flash_after(chip: Chip, frame: &[u8; 260], code: &mut [u8], data: &mut [u8])
     ensures { λ _. ⌜ ((c : Core) → memory (now (code .exit)) (now («data» .exit)) ≡ effected chip c (memory (now (code .entry)) (now («data» .entry))) (now (frame .entry)) .state .memory) ⌝ }
 {
     if frame[2] == 0x22 {
-        match flash::finder::erase_address(chip, verdict::address_at(frame, 3)) {
+        match flash::finder::erase_address(chip, verdict::sad_of(frame)) {
             Found::In(f, b) => flash::erase::erase_block(chip, code, data, f, b),
             Found::Nowhere => {}
         }

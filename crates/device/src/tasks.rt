@@ -8,9 +8,9 @@ use rules::Phase;
 use rules::Range;
 use rules::Task;
 ghost use mathlib.Core.Path.{_≡_};
-ghost use Prim.Native.Nat.{_<_, _≤_};
+ghost use Prim.Native.Nat.{_≤_};
 ghost use Rattle.rules.specs.Chip.{blocksFrom};
-ghost use Rattle.rules.specs.StandIn.{ahead, taskIn, taskNow, startOf, later, pagesOf, afterMode, afterSpeed};
+ghost use Rattle.rules.specs.StandIn.{ahead, taskIn, taskNow, startOf, pagesOf, afterMode, afterSpeed};
 
 // The pages that a command still waits for are all in the flash.
 pub fn ahead(chip: Chip, p: Pages) -> bool
@@ -108,20 +108,6 @@ pub fn pages_of(range: Range) -> Pages
             left: 0,
             status: 0x06,
         },
-    }
-}
-
-// The pages after the one in hand, with what is known of it.
-pub fn later(p: Pages, status: u8) -> Pages
-    requires { ⌜ (p .page < 524288) × (0 < p .left) ⌝ }
-    ensures { λ r. ⌜ r ≡ later p status ⌝ }
-{
-    let f = p.flash;
-    Pages {
-        flash: f,
-        page: p.page + 1,
-        left: p.left - 1,
-        status: status,
     }
 }
 

@@ -1,7 +1,6 @@
 // Data frames: a page of Programming, with the delayed write status, and a page of Verify.
 use device::Core;
 use device::Heard;
-use device::tasks;
 use rules::Chip;
 use rules::Flash;
 use rules::Options;
@@ -13,7 +12,7 @@ ghost use mathlib.Core.Bool.{true, cond, _&&_};
 ghost use lib.Dec.{eqb};
 ghost use Prim.Native.Nat.{_+_, _<_, _≤_};
 ghost use lib.ListN.{length};
-ghost use Rattle.rules.specs.StandIn.{ahead, onPage, onCompare, answered, out, rest};
+ghost use Rattle.rules.specs.StandIn.{ahead, later, onPage, onCompare, answered, out, rest};
 ghost use Rattle.rules.specs.Chip.{Memory};
 ghost use Rattle.rules.specs.Frame.{pair};
 ghost use Rattle.flash.specs.Lent.{memory};
@@ -37,6 +36,20 @@ fn paired(c: Core, task: Task, line: u8, status: u8, reply: &mut [u8]) -> Heard
             have: 0,
         },
         answered: n,
+    }
+}
+
+// The pages after the one in hand, with what is known of it.
+fn later(p: Pages, status: u8) -> Pages
+    requires { ⌜ (p .page < 524288) × (0 < p .left) ⌝ }
+    ensures { λ r. ⌜ r ≡ later p status ⌝ }
+{
+    let f = p.flash;
+    Pages {
+        flash: f,
+        page: p.page + 1,
+        left: p.left - 1,
+        status: status,
     }
 }
 
@@ -71,7 +84,7 @@ pub fn on_page(
     if last {
         return paired(c, Task::Idle, 0x06, st, reply);
     }
-    paired(c, Task::Programming(tasks::later(p, st)), 0x06, 0x06, reply)
+    paired(c, Task::Programming(later(p, st)), 0x06, 0x06, reply)
 }
 
 // A page of Verify: judged and compared; a difference is told only with the last page.
@@ -101,7 +114,7 @@ pub fn on_compare(
     if last {
         return paired(c, Task::Idle, 0x06, told, reply);
     }
-    paired(c, Task::Verifying(tasks::later(p, told)), 0x06, 0x06, reply)
+    paired(c, Task::Verifying(later(p, told)), 0x06, 0x06, reply)
 }
 
 // 06h as long as every page so far was equal.

@@ -12,7 +12,7 @@ ghost use mathlib.Core.List.{List};
 ghost use Prim.Native.Nat.{ℕ, _<_};
 ghost use lib.Dec.{leb, eqb};
 ghost use Rattle.rules.specs.Chip.{addressAt, invalid, nowhere};
-ghost use Rattle.rules.specs.Command.{badParameter, idDiffers, notBlank, blockProtected, protected, commandFault};
+ghost use Rattle.rules.specs.Command.{sadOf, eadOf, badParameter, idDiffers, notBlank, blockProtected, protected, commandFault};
 ghost use Rattle.flash.specs.Lent.{memory};
 ghost use Rattle.wire.specs.Buffer.{frameIn};
 ghost use Rattle.device.specs.View.{LenFits};
@@ -24,11 +24,24 @@ fn wide(x: u8) -> u32
 }
 
 // An address in the frame, low byte first.
-pub fn address_at(frame: &[u8; 260], i: usize) -> Address
+fn address_at(frame: &[u8; 260], i: usize) -> Address
     requires { ⌜ i < 258 ⌝ }
     ensures { λ r. ⌜ r ≡ addressAt (now (frame .entry)) i ⌝ }
 {
     Address(wide(frame[i]) + 256 * wide(frame[i + 1]) + 65536 * wide(frame[i + 2]))
+}
+
+// SAD and EAD of a command frame.
+pub fn sad_of(frame: &[u8; 260]) -> Address
+    ensures { λ r. ⌜ r ≡ sadOf (now (frame .entry)) ⌝ }
+{
+    address_at(frame, 3)
+}
+
+pub fn ead_of(frame: &[u8; 260]) -> Address
+    ensures { λ r. ⌜ r ≡ eadOf (now (frame .entry)) ⌝ }
+{
+    address_at(frame, 6)
 }
 
 fn no_range(r: Range) -> bool
@@ -85,10 +98,10 @@ fn bad_parameter(chip: Chip, frame: &[u8; 260]) -> bool
 {
     let code = frame[2];
     if has_pair(code) {
-        return no_range(flash::finder::range(chip, address_at(frame, 3), address_at(frame, 6)));
+        return no_range(flash::finder::range(chip, sad_of(frame), ead_of(frame)));
     }
     if code == 0x22 {
-        return no_block(flash::finder::erase_address(chip, address_at(frame, 3)));
+        return no_block(flash::finder::erase_address(chip, sad_of(frame)));
     }
     if code == 0x9A {
         return bad_speed(frame[3], frame[4]);
@@ -140,7 +153,7 @@ fn protected(chip: Chip, o: Options, frame: &[u8; 260]) -> bool
 {
     let code = frame[2];
     if code == 0x22 {
-        return block_protected(o, flash::finder::erase_address(chip, address_at(frame, 3)));
+        return block_protected(o, flash::finder::erase_address(chip, sad_of(frame)));
     }
     if code == 0xA2 {
         let sepr = options::sepr(o);

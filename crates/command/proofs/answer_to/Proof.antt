@@ -127,11 +127,11 @@ returns-5 c =
     let law = windowed (a .chip) (a .c) m (now (a .frame)) (s .pre .0) (c .before .before .before .before .before .before .before .if5 .taken) in
     answered-as _ _ _ _ law (c .before .before .put-ack-and2 .ensures ∙ told-as _ _ _ (cc) (omega arith) (omega arith) (s .pre .1 .room))
 
-address-at-requires : tie.Need-address-at-requires
-address-at-requires c κs = search needs
+sad-of-requires : tie.Need-sad-of-requires
+sad-of-requires c κs = search needs
 
-address-at-requires-2 : tie.Need-address-at-requires-2
-address-at-requires-2 c κs = search needs
+ead-of-requires : tie.Need-ead-of-requires
+ead-of-requires c κs = search needs
 
 sum-over-requires : tie.Need-sum-over-requires
 sum-over-requires c κs = search needs
@@ -216,8 +216,8 @@ answer-to-spec =
     put-ack-and-requires-2
     same-length-4
     returns-5
-    address-at-requires
-    address-at-requires-2
+    sad-of-requires
+    ead-of-requires
     sum-over-requires
     cast-t57
     cast-t60

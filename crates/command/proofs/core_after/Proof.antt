@@ -26,11 +26,11 @@ core p t o = record { phase = p; task = t; options = o; have = 0 }
 element-copy-out-code : tie.Need-element-copy-out-code
 element-copy-out-code c = search needs
 
-address-at-requires : tie.Need-address-at-requires
-address-at-requires c κs = search needs
+sad-of-requires : tie.Need-sad-of-requires
+sad-of-requires c κs = search needs
 
-address-at-requires-2 : tie.Need-address-at-requires-2
-address-at-requires-2 c κs = search needs
+ead-of-requires : tie.Need-ead-of-requires
+ead-of-requires c κs = search needs
 
 range-requires : tie.Need-range-requires
 range-requires c κs = search needs
@@ -47,14 +47,14 @@ returns c =
     let a = s .args in
     let pages =
     c .before .pages-of .ensures
-    ∙ ap pagesOf (c .before .before .range .ensures ∙ ap (λ (x : Address). range (a .chip) x (c .before .before .before .address-at2 .result)) (c .before .before .before .before .address-at .ensures) ∙ ap (λ (x : Address). range (a .chip) (addressAt (now (a .frame)) 3) x) (c .before .before .before .address-at2 .ensures)) in
+    ∙ ap pagesOf (c .before .before .range .ensures ∙ ap (λ (x : Address). range (a .chip) x (c .before .before .before .ead-of .result)) (c .before .before .before .before .sad-of .ensures) ∙ ap (λ (x : Address). range (a .chip) (addressAt (now (a .frame)) 3) x) (c .before .before .before .ead-of .ensures)) in
     (λ m. settled-as (c .settled .result) _ _ (verify (a .chip) (a .c) m (now (a .frame)) (s .pre) (c .before .before .before .before .before .if1 .taken)) refl (c .settled .ensures ∙ ap (λ (p : Pages). core (a .c .phase) (Verifying p) (a .c .options)) pages), ap (λ (x : Core). x .have) (c .settled .ensures))
 
-address-at-requires-3 : tie.Need-address-at-requires-3
-address-at-requires-3 c κs = search needs
+sad-of-requires-2 : tie.Need-sad-of-requires-2
+sad-of-requires-2 c κs = search needs
 
-address-at-requires-4 : tie.Need-address-at-requires-4
-address-at-requires-4 c κs = search needs
+ead-of-requires-2 : tie.Need-ead-of-requires-2
+ead-of-requires-2 c κs = search needs
 
 range-requires-2 : tie.Need-range-requires-2
 range-requires-2 c κs = search needs
@@ -71,7 +71,7 @@ returns-2 c =
     let a = s .args in
     let pages =
     c .before .pages-of2 .ensures
-    ∙ ap pagesOf (c .before .before .range2 .ensures ∙ ap (λ (x : Address). range (a .chip) x (c .before .before .before .address-at4 .result)) (c .before .before .before .before .address-at3 .ensures) ∙ ap (λ (x : Address). range (a .chip) (addressAt (now (a .frame)) 3) x) (c .before .before .before .address-at4 .ensures)) in
+    ∙ ap pagesOf (c .before .before .range2 .ensures ∙ ap (λ (x : Address). range (a .chip) x (c .before .before .before .ead-of2 .result)) (c .before .before .before .before .sad-of2 .ensures) ∙ ap (λ (x : Address). range (a .chip) (addressAt (now (a .frame)) 3) x) (c .before .before .before .ead-of2 .ensures)) in
     (λ m. settled-as (c .settled2 .result) _ _ (programming (a .chip) (a .c) m (now (a .frame)) (s .pre) (c .before .before .before .before .before .if2 .taken)) refl (c .settled2 .ensures ∙ ap (λ (p : Pages). core (a .c .phase) (Programming p) (a .c .options)) pages), ap (λ (x : Core). x .have) (c .settled2 .ensures))
 
 after-speed-requires : tie.Need-after-speed-requires
@@ -191,14 +191,14 @@ core-after-spec =
     tie.close
     (tie.spec
     element-copy-out-code
-    address-at-requires
-    address-at-requires-2
+    sad-of-requires
+    ead-of-requires
     range-requires
     pages-of-requires
     settled-requires
     returns
-    address-at-requires-3
-    address-at-requires-4
+    sad-of-requires-2
+    ead-of-requires-2
     range-requires-2
     pages-of-requires-2
     settled-requires-2

@@ -12,8 +12,8 @@ use Rattle.command.proofs.flash_after.Tie as tie
 element-copy-out-if1 : tie.Need-element-copy-out-if1
 element-copy-out-if1 c = search needs
 
-address-at-requires : tie.Need-address-at-requires
-address-at-requires c κs = search needs
+sad-of-requires : tie.Need-sad-of-requires
+sad-of-requires c κs = search needs
 
 erase-address-requires : tie.Need-erase-address-requires
 erase-address-requires c κs = search needs
@@ -38,13 +38,13 @@ returns c d =
     let s = c .before .before .before .before .before .before .before .before .before .before .before .before .before .before .before .before in
     let a = s .args in
     let m = memory (now (a .code)) (now (a .«data»)) in
-    erase-did (a .chip) d m (now (a .frame)) (s .pre .0) (cc) (s .pre .1 .0) (s .pre .1 .1) _ (c .before .before .before .before .before .before .before .before .before .before .erase-address .ensures ∙ ap (λ (x : Address). eraseAddress (a .chip) x) (c .before .before .before .before .before .before .before .before .before .before .before .address-at .ensures)) _ _ (c .before .before .before .before .before .before .before .before .f .given .1) _ (c .before .before .before .before .erase-block .ensures)
+    erase-did (a .chip) d m (now (a .frame)) (s .pre .0) (cc) (s .pre .1 .0) (s .pre .1 .1) _ (c .before .before .before .before .before .before .before .before .before .before .erase-address .ensures ∙ ap (λ (x : Address). eraseAddress (a .chip) x) (c .before .before .before .before .before .before .before .before .before .before .before .sad-of .ensures)) _ _ (c .before .before .before .before .before .before .before .before .f .given .1) _ (c .before .before .before .before .erase-block .ensures)
 
 returns-2 : tie.Need-returns-2
 returns-2 c d =
     let s = c .before .before .before .before .before .before .before .before in
     let a = s .args in
-    erase-not (a .chip) d (memory (now (a .code)) (now (a .«data»))) (now (a .frame)) (s .pre .0) (cc) _ (c .before .before .erase-address .ensures ∙ ap (λ (x : Address). eraseAddress (a .chip) x) (c .before .before .before .address-at .ensures)) (c .enum-told .given .1)
+    erase-not (a .chip) d (memory (now (a .code)) (now (a .«data»))) (now (a .frame)) (s .pre .0) (cc) _ (c .before .before .erase-address .ensures ∙ ap (λ (x : Address). eraseAddress (a .chip) x) (c .before .before .before .sad-of .ensures)) (c .enum-told .given .1)
 
 returns-3 : tie.Need-returns-3
 returns-3 c d =
@@ -57,7 +57,7 @@ flash-after-spec =
     tie.close
     (tie.spec
     element-copy-out-if1
-    address-at-requires
+    sad-of-requires
     erase-address-requires
     enum-known-f
     erase-block-requires

@@ -1,4 +1,4 @@
--- `command::verdict::address_at` meets its contract: three bytes, low byte first. Assumes nothing.
+-- `verdict::address_at` meets its contract: three bytes, low byte first. Assumes nothing.
 use borrow.Author.Needs.{needs}
 use Rattle.verdict.proofs.address_at.Statement.{statement}
 use Rattle.verdict.proofs.address_at.Tie as tie

@@ -15,11 +15,11 @@ element-copy-out-code c = search needs
 has-pair-requires : tie.Need-has-pair-requires
 has-pair-requires c κs = search needs
 
-address-at-requires : tie.Need-address-at-requires
-address-at-requires c κs = search needs
+sad-of-requires : tie.Need-sad-of-requires
+sad-of-requires c κs = search needs
 
-address-at-requires-2 : tie.Need-address-at-requires-2
-address-at-requires-2 c κs = search needs
+ead-of-requires : tie.Need-ead-of-requires
+ead-of-requires c κs = search needs
 
 range-requires : tie.Need-range-requires
 range-requires c κs = search needs
@@ -35,8 +35,8 @@ returns c =
     let fields = pair-of (s .args .frame .now) (s .pre) pair in
     rw (code-in, pair, fields .0, fields .1) (cc)
 
-address-at-requires-3 : tie.Need-address-at-requires-3
-address-at-requires-3 c κs = search needs
+sad-of-requires-2 : tie.Need-sad-of-requires-2
+sad-of-requires-2 c κs = search needs
 
 erase-address-requires : tie.Need-erase-address-requires
 erase-address-requires c κs = search needs
@@ -83,12 +83,12 @@ bad-parameter-spec =
     (tie.spec
     element-copy-out-code
     has-pair-requires
-    address-at-requires
-    address-at-requires-2
+    sad-of-requires
+    ead-of-requires
     range-requires
     no-range-requires
     returns
-    address-at-requires-3
+    sad-of-requires-2
     erase-address-requires
     no-block-requires
     returns-2

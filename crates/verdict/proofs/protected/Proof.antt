@@ -10,8 +10,8 @@ use Rattle.verdict.proofs.protected.Tie as tie
 element-copy-out-code : tie.Need-element-copy-out-code
 element-copy-out-code c = search needs
 
-address-at-requires : tie.Need-address-at-requires
-address-at-requires c κs = search needs
+sad-of-requires : tie.Need-sad-of-requires
+sad-of-requires c κs = search needs
 
 erase-address-requires : tie.Need-erase-address-requires
 erase-address-requires c κs = search needs
@@ -56,7 +56,7 @@ protected-spec =
     tie.close
     (tie.spec
     element-copy-out-code
-    address-at-requires
+    sad-of-requires
     erase-address-requires
     block-protected-requires
     returns

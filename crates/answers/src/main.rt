@@ -1,10 +1,7 @@
 // The stand-in by itself: reads a script of text lines from standard input and writes what the chip answers.
-mod chip;
-mod echo;
 mod run;
-mod script_line;
-mod show;
 
+use script::echo;
 use text::lines;
 use text::part;
 

@@ -1,9 +1,9 @@
 // A whole script: its lines one after the other, up to its end or the first bad one.
-use crate::chip;
-use crate::chip::State;
-use crate::script_line;
-use crate::script_line::Line;
-use crate::show;
+use script::chip;
+use script::chip::State;
+use script::script_line;
+use script::script_line::Line;
+use script::show;
 use text::in_hand;
 use text::in_hand::InHand;
 use text::lines::bad_line;
@@ -21,6 +21,22 @@ fn is_bad(said: Line) -> bool {
     match said {
         Line::Bad => true,
         _ => false,
+    }
+}
+
+// The sheet played to the chip as it stands. With the power off it is Silent, and so it does not wait for a command.
+fn play(
+    chip: State,
+    sheet: &[u8],
+    frame: &mut [u8; 260],
+    code: &mut [u8],
+    data: &mut [u8],
+) -> State {
+    let c = chip.core;
+    let core = printout::play(sheet, c, frame, code, data);
+    State {
+        on: chip.on,
+        core: core,
     }
 }
 
@@ -57,7 +73,7 @@ fn act(
         ),
         Line::Show => show::all(chip, &*code, &*data),
         Line::Sheet => chip,
-        Line::Play => chip::play(chip, sheet, frame, code, data),
+        Line::Play => play(chip, sheet, frame, code, data),
     }
 }
 

@@ -24,14 +24,15 @@ use Rattle.rules.specs.Sheet.{verdict, count, stepAt, andThen, rule, firstBroke
 use Rattle.rules.specs.Player.{newPlayer, lost, playerVerdict, frameRoom}
 use Rattle.rules.specs.Run.{clean, Joined, run, stepRun, mostFrames, waits}
 use Rattle.rules.proofs.Sheet.{refused≢accepted}
-use Rattle.flash.proofs.Choices.{both}
+use Rattle.rules.proofs.Choices.{both}
 use Rattle.moves.proofs.Stands.{ready-stands, allowed-call}
 use Rattle.turns.specs.Turns.{Sized, Fit, Begins}
 use Rattle.bench.specs.declared.Answer.the-variants.{Refused, NotAtStep, Busy, Played}
-use Rattle.line.specs.Rigs.{joinedVerdict, isReady, startsStep}
+use Rattle.checks.specs.Checks.{joinedVerdict, isReady, startsStep}
 use Rattle.bench.specs.Plays.{Outcome, outcome, lengths, judged, stepPlayed, sheetPlayed}
 use Rattle.line.specs.Turn.{Rooms}
-use Rattle.bench.specs.Starts.{Starts, Opens}
+use Rattle.bench.specs.Starts.{Opens}
+use Rattle.line.specs.Turn.{Starts}
 
 -- ---- outcomes ----
 

@@ -2,4 +2,3 @@ pub mod Calls
 pub mod Means
 pub mod Outcomes
 pub mod Through
-pub mod Within

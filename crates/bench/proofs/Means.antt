@@ -19,7 +19,7 @@ use Rattle.turns.proofs.Run.{run-means}
 use Rattle.turns.proofs.Steps.{step-ends}
 use Rattle.bench.specs.declared.Answer.{Answer}
 use Rattle.bench.specs.declared.Answer.the-variants.{Refused, NotAtStep, Busy, Played}
-use Rattle.line.specs.Rigs.{joinedVerdict, startsStep}
+use Rattle.checks.specs.Checks.{joinedVerdict, startsStep}
 use Rattle.bench.specs.Plays.{Outcome, outcome, lengths, judged, stepPlayed, sheetPlayed}
 use Rattle.bench.proofs.Calls.{good, starts, step-played, sheet-played}
 

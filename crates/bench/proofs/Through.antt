@@ -19,7 +19,7 @@ use Rattle.rules.specs.Run.{clean, Joined, joining, Ran, ran, takenIn, turned, 
 use Rattle.sheet.proofs.Accepted.{whole}
 use Rattle.moves.proofs.Moves.{absorb-new}
 use Rattle.moves.proofs.Stands.{stands-new}
-use Rattle.player.specs.Parts.{takesIn}
+use Rattle.taking.specs.Taking.{takesIn}
 use Rattle.rules.specs.Meaning.{Done}
 use Rattle.turns.specs.Turns.{Sized, Begins, StepRuns}
 use Rattle.turns.proofs.Run.{Before, over-ends}
@@ -28,7 +28,8 @@ use Rattle.turns.proofs.Sizes.{few-from}
 use Rattle.turns.proofs.Turns.{turn-as}
 use Rattle.bench.specs.Plays.{isOver}
 use Rattle.line.specs.Turn.{Rooms}
-use Rattle.bench.specs.Starts.{Starts, Opens}
+use Rattle.bench.specs.Starts.{Opens}
+use Rattle.line.specs.Turn.{Starts}
 
 -- over a clean line it does not matter how many frames went before
 any-turn : (chip : Chip) (s : List ℕ) (k c : ℕ) (j : Joined) → stepFrom clean chip s c k j ≡ stepFrom clean chip s 0 k j

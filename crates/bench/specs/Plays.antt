@@ -10,8 +10,8 @@ use Rattle.rules.specs.declared.Verdict.{Verdict}
 use Rattle.rules.specs.declared.Verdict.the-variants as verdict
 use Rattle.rules.specs.Player.{newPlayer}
 use Rattle.rules.specs.Run.{Joined, clean, run, stepRun, waits}
-use Rattle.line.specs.declared.checks.Lent.{Lent}
-use Rattle.line.specs.Rigs.{joinedVerdict, startsStep}
+use Rattle.checks.specs.declared.Lent.{Lent}
+use Rattle.checks.specs.Checks.{joinedVerdict, startsStep}
 use Rattle.bench.specs.declared.Answer.{Answer}
 use Rattle.bench.specs.declared.Answer.the-variants.{Refused, NotAtStep, Busy, Played}
 

@@ -1,4 +1,4 @@
--- What has to be for a step, and for a whole sheet. Assumes nothing.
+-- What has to be for a whole sheet. Assumes nothing.
 use mathlib.Core.Path.{_≡_}
 use mathlib.Core.Bool.{true}
 use mathlib.Core.List.{List}
@@ -7,13 +7,7 @@ use Rattle.rules.specs.declared.Chip.{Chip}
 use Rattle.rules.specs.declared.Stage.the-variants.{New}
 use Rattle.rules.specs.Run.{Joined, waits}
 use Rattle.line.specs.Turn.{Rooms}
-use Rattle.turns.specs.Turns.{Sized, Fit, Begins}
-
--- a step: the player is at its beginning
-pub record Starts (chip : Chip) (s : List ℕ) (j : Joined) : Type 0 where
-  pub rooms : Rooms chip s j
-  pub sized : Sized chip
-  pub begins : Begins chip s j
+use Rattle.turns.specs.Turns.{Sized, Fit}
 
 -- a sheet: the player is a new one, and the stand-in waits for a command
 pub record Opens (chip : Chip) (s : List ℕ) (j : Joined) : Type 0 where

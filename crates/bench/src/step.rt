@@ -1,51 +1,16 @@
-// One step of a sheet, turn by turn.
+// One step of a sheet.
 use super::Answer;
 use super::Played;
+use checks::Lent;
 use device::Core;
 use line::Rig;
-use line::checks;
-use line::checks::Lent;
-use line::turn;
-use rules::Chip;
+use line::step::step_through;
 use rules::Player;
 use rules::Verdict;
-use sheet::read::step_at;
 ghost use mathlib.Core.Path.{_≡_};
 ghost use Rattle.rules.specs.Chip.{small};
-ghost use Rattle.rules.specs.Run.{clean, stepRun};
 ghost use Rattle.line.specs.Rigs.{rigged};
 ghost use Rattle.bench.specs.Plays.{outcome, stepPlayed};
-ghost use Rattle.bench.specs.Starts.{Starts};
-
-// From the beginning of a step to the beginning of the next, or the end.
-pub(crate) fn step_through(
-    chip: Chip,
-    sheet: &[u8],
-    r: Rig,
-    held: &mut [u8; 260],
-    code: &mut [u8],
-    data: &mut [u8],
-    reply: &mut [u8],
-    frame: &mut [u8],
-    sums: &mut [u16],
-) -> Rig
-    requires { ⌜ Starts chip (now sheet) (rigged r (now held) (now code) (now «data») (now reply) (now frame) (now sums)) ⌝ }
-    ensures { λ q. ⌜ rigged q (now (held .exit)) (now (code .exit)) (now («data» .exit)) (now (reply .exit)) (now (frame .exit)) (now (sums .exit)) ≡ stepRun clean chip (now (sheet .entry)) 0 (rigged r (now (held .entry)) (now (code .entry)) (now («data» .entry)) (now (reply .entry)) (now (frame .entry)) (now (sums .entry))) .joined ⌝ }
-{
-    let p = r.player;
-    let most = checks::most_frames(step_at(chip, sheet, p.step));
-    let mut rig = r;
-    let mut i = 0;
-    while i < most {
-        rig = turn::turn(chip, sheet, rig, held, code, data, reply, frame, sums);
-        let now = rig.player;
-        if turn::between(now) {
-            return rig;
-        }
-        i += 1;
-    }
-    rig
-}
 
 // The step at whose beginning the player stands. Where it is refused, all stands.
 pub fn play_step(
@@ -61,7 +26,7 @@ pub fn play_step(
 ) -> Played
     ensures { λ q. ⌜ outcome (q .answer) (rigged (q .rig) (now (held .exit)) (now (code .exit)) (now («data» .exit)) (now (reply .exit)) (now (frame .exit)) (now (sums .exit))) ≡ stepPlayed small (now (sheet .entry)) (rigged (record { player = p; core = c; heard = 0 }) (now (held .entry)) (now (code .entry)) (now («data» .entry)) (now (reply .entry)) (now (frame .entry)) (now (sums .entry))) ⌝ }
 {
-    let chip = flash::finder::small();
+    let chip = finder::small();
     let rig = Rig {
         player: p,
         core: c,

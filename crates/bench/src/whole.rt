@@ -1,18 +1,17 @@
 // A whole sheet, step by step.
 use super::Answer;
 use super::Played;
-use super::step::step_through;
+use checks::Lent;
 use device::Core;
+use entries::count;
 use line::Rig;
-use line::checks;
-use line::checks::Lent;
-use player::taking::absorb;
-use player::taking::new_player;
+use line::step::step_through;
 use rules::Chip;
 use rules::Player;
 use rules::Stage;
 use rules::Verdict;
-use sheet::read::count;
+use taking::absorb;
+use taking::new_player;
 ghost use mathlib.Core.Path.{_≡_};
 ghost use Rattle.rules.specs.Chip.{small};
 ghost use Rattle.rules.specs.Player.{newPlayer};
@@ -88,7 +87,7 @@ pub fn play(
 ) -> Played
     ensures { λ q. ⌜ outcome (q .answer) (rigged (q .rig) (now (held .exit)) (now (code .exit)) (now («data» .exit)) (now (reply .exit)) (now (frame .exit)) (now (sums .exit))) ≡ sheetPlayed small (now (sheet .entry)) (rigged (record { player = newPlayer; core = c; heard = 0 }) (now (held .entry)) (now (code .entry)) (now («data» .entry)) (now (reply .entry)) (now (frame .entry)) (now (sums .entry))) ⌝ }
 {
-    let chip = flash::finder::small();
+    let chip = finder::small();
     let p = new_player();
     let rig = Rig {
         player: p,

@@ -9,7 +9,8 @@ use Rattle.rules.specs.declared.Flash.{Flash}
 use Rattle.rules.specs.declared.Flash.the-variants.{Code, Data}
 use Rattle.rules.specs.declared.Block.{Block}
 use Rattle.rules.specs.Chip.{Memory, flashSize, fits, blocks, eraseBlock, bytesFrom}
-use Rattle.flash.specs.Lent.{erasedAt, rangeShown}
+use Rattle.finder.specs.Lent.{rangeShown}
+use Rattle.flash.specs.Writing.{erasedAt}
 
 module _ (chip : Chip) (m : Memory) (inCode : length (m .code) ≡ flashSize chip Code) (inData : length (m .«data») ≡ flashSize chip Data) where
   pub fits-both : (f : Flash) → fits chip m f ≡ true

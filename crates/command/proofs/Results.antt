@@ -29,8 +29,9 @@ use Rattle.wire.proofs.Frames.{code-in}
 use Rattle.device.specs.declared.Core.{Core}
 use Rattle.device.specs.View.{idle, effected, LenFits}
 use Rattle.command.proofs.Codes.{answers-ack, stays, leaves}
-use Rattle.flash.specs.Lent.{erasedAt, rangeShown}
-use Rattle.flash.proofs.ThereAndBack.{erase-inside, range-inside}
+use Rattle.finder.specs.Lent.{rangeShown}
+use Rattle.flash.specs.Writing.{erasedAt}
+use Rattle.finder.proofs.ThereAndBack.{erase-inside, range-inside}
 use Rattle.command.proofs.Found.{erased-found, shown-found}
 use Rattle.verdict.proofs.Fields.{byte-of, word-of, address-of, len-due}
 

@@ -18,7 +18,7 @@ ghost use lib.ListN.{length};
 ghost use Rattle.rules.specs.declared.Flash.the-variants.{Code, Data};
 ghost use Rattle.rules.specs.Chip.{Memory, wordAt, flashSize, range};
 ghost use Rattle.rules.specs.StandIn.{summed, silences, phaseAfter, onCommand, answered};
-ghost use Rattle.flash.specs.Lent.{memory};
+ghost use Rattle.finder.specs.Lent.{memory};
 ghost use Rattle.wire.specs.Buffer.{frameIn, put, Put, putBytes};
 ghost use Rattle.device.specs.View.{idle, heard, effected, LenFits, Fits};
 
@@ -58,11 +58,11 @@ fn core_after(chip: Chip, c: Core, frame: &[u8; 260]) -> Core
     let o = c.options;
     let code = frame[2];
     if code == 0x13 {
-        let range = flash::finder::range(chip, verdict::sad_of(frame), verdict::ead_of(frame));
+        let range = finder::range(chip, verdict::sad_of(frame), verdict::ead_of(frame));
         return settled(phase, Task::Verifying(tasks::pages_of(range)), o);
     }
     if code == 0x40 {
-        let range = flash::finder::range(chip, verdict::sad_of(frame), verdict::ead_of(frame));
+        let range = finder::range(chip, verdict::sad_of(frame), verdict::ead_of(frame));
         return settled(phase, Task::Programming(tasks::pages_of(range)), o);
     }
     if code == 0x9A {
@@ -72,20 +72,20 @@ fn core_after(chip: Chip, c: Core, frame: &[u8; 260]) -> Core
         return settled(Phase::Command, Task::Idle, o);
     }
     if code == 0xA0 {
-        let n = options::security_set(o, frame[3], frame[4]);
+        let n = settings::security_set(o, frame[3], frame[4]);
         if options::ifpr(n) == 0 {
             return settled(Phase::Silent, Task::Idle, n);
         }
         return settled(phase, Task::Idle, n);
     }
     if code == 0xA2 {
-        return settled(phase, Task::Idle, options::release(o));
+        return settled(phase, Task::Idle, settings::release(o));
     }
     if code == 0xAC {
         return settled(
             phase,
             Task::Idle,
-            options::window_set(o, word_at(frame, 3), word_at(frame, 5)),
+            settings::window_set(o, word_at(frame, 3), word_at(frame, 5)),
         );
     }
     settled(phase, Task::Idle, o)
@@ -96,11 +96,9 @@ fn sum_over<'a>(chip: Chip, sad: Address, ead: Address, code: &'a [u8], data: &'
     requires { ⌜ (length (now code) ≡ flashSize chip Code) × (length (now «data») ≡ flashSize chip Data) ⌝ }
     ensures { λ r. ⌜ r ≡ summed (memory (now (code .entry)) (now («data» .entry))) (range chip sad ead) ⌝ }
 {
-    let range = flash::finder::range(chip, sad, ead);
+    let range = finder::range(chip, sad, ead);
     match range {
-        Range::Blocks(f, a, b) => {
-            flash::bytes::checksum(flash::finder::range_part(chip, code, data, f, a, b))
-        }
+        Range::Blocks(f, a, b) => { spans::checksum(finder::range_part(chip, code, data, f, a, b)) }
         Range::Invalid => 0,
     }
 }
@@ -125,7 +123,7 @@ fn answer_to<'a>(
         return wire::build::put_frame(reply, 0x02, 0x03, &body);
     }
     if cmd == 0xA0 {
-        let n = options::security_set(o, frame[3], frame[4]);
+        let n = settings::security_set(o, frame[3], frame[4]);
         if options::ifpr(n) == 0 {
             return 0;
         }
@@ -167,7 +165,7 @@ fn flash_after(chip: Chip, frame: &[u8; 260], code: &mut [u8], data: &mut [u8])
     ensures { λ _. ⌜ ((c : Core) → memory (now (code .exit)) (now («data» .exit)) ≡ effected chip c (memory (now (code .entry)) (now («data» .entry))) (now (frame .entry)) .state .memory) ⌝ }
 {
     if frame[2] == 0x22 {
-        match flash::finder::erase_address(chip, verdict::sad_of(frame)) {
+        match finder::erase_address(chip, verdict::sad_of(frame)) {
             Found::In(f, b) => flash::erase::erase_block(chip, code, data, f, b),
             Found::Nowhere => {}
         }
@@ -231,7 +229,7 @@ pub fn on_command(
     let phase = c.phase;
     let o = c.options;
     let v = verdict::command_fault(chip, phase, o, frame, &*code, &*data);
-    let status = wire::judge::status_byte(v);
+    let status = judge::status_byte(v);
     if status != 0x06 {
         let n = wire::build::put_one(reply, status);
         return Heard {

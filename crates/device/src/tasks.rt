@@ -17,7 +17,7 @@ pub fn ahead(chip: Chip, p: Pages) -> bool
     ensures { λ r. ⌜ r ≡ ahead chip p ⌝ }
 {
     let f = p.flash;
-    let n = flash::finder::pages_of(chip, f);
+    let n = finder::pages_of(chip, f);
     if p.left == 0 {
         return false;
     }
@@ -94,7 +94,7 @@ pub fn pages_of(range: Range) -> Pages
 {
     match range {
         Range::Blocks(f, a, b) => {
-            let k = flash::finder::pages_per_block(f);
+            let k = finder::pages_per_block(f);
             Pages {
                 flash: f,
                 page: a.0 as usize * k,

@@ -6,7 +6,7 @@ use rules::Chip;
 use rules::Task;
 ghost use mathlib.Core.Path.{_≡_};
 ghost use Rattle.rules.specs.StandIn.{onFrame, answered};
-ghost use Rattle.flash.specs.Lent.{memory};
+ghost use Rattle.finder.specs.Lent.{memory};
 ghost use Rattle.wire.specs.Buffer.{frameIn};
 ghost use Rattle.device.specs.View.{idle, heard, Fits};
 

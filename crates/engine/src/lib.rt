@@ -15,7 +15,7 @@ ghost use Rattle.rules.specs.declared.Call.the-variants.{Answer};
 ghost use Rattle.rules.specs.Chip.{Memory};
 ghost use Rattle.rules.specs.Frame.{frameSize, lenOf};
 ghost use Rattle.rules.specs.StandIn.{Outcome, byteCall, receive, answered, received};
-ghost use Rattle.flash.specs.Lent.{memory};
+ghost use Rattle.finder.specs.Lent.{memory};
 ghost use Rattle.device.specs.View.{Fits};
 ghost use Rattle.engine.specs.View.{view, came, heldOf, holds, listening};
 ghost use Rattle.engine.specs.Change.{changed, told};
@@ -42,7 +42,7 @@ pub fn held(have: usize, frame: &[u8; 260]) -> usize
     if have < 2 {
         return have;
     }
-    if have < wire::judge::frame_size(frame[1]) {
+    if have < judge::frame_size(frame[1]) {
         return have;
     }
     0
@@ -58,7 +58,7 @@ fn in_hand(have: usize, frame: &[u8; 260]) -> usize
         return 0;
     }
     let len = frame[1];
-    wire::judge::frame_size(len)
+    judge::frame_size(len)
 }
 
 // Nothing is held: the byte begins a frame if it is the start byte awaited, else it is skipped. How many bytes are then held.
@@ -133,10 +133,10 @@ pub fn hear(
     // asked for its length, the buffer is known to have 260 bytes
     let whole: &[u8] = &*frame;
     let _room = whole.len();
-    if !flash::finder::has_size(chip, Flash::Code, code.len()) {
+    if !finder::has_size(chip, Flash::Code, code.len()) {
         return Change::Refused(Refusal::D1);
     }
-    if !flash::finder::has_size(chip, Flash::Data, data.len()) {
+    if !finder::has_size(chip, Flash::Data, data.len()) {
         return Change::Refused(Refusal::D2);
     }
     if reply.len() < 16 {
@@ -144,7 +144,7 @@ pub fn hear(
     }
     let phase = c.phase;
     if !listens(phase) {
-        if wire::judge::phase_number(phase) == 4 {
+        if judge::phase_number(phase) == 4 {
             return Change::Held(c.have);
         }
         let o = c.options;

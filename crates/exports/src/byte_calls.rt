@@ -70,7 +70,7 @@ pub fn each_byte(
     data: &mut [u8],
     reply: &mut [u8],
 ) -> usize {
-    let chip = flash::finder::small();
+    let chip = finder::small();
     let mut core = starting(start);
     let mut sum: usize = 0;
     for i in 0..bytes.len() {

@@ -4,11 +4,11 @@ use crate::digest::mixed;
 use crate::digest::mixed_bytes;
 use crate::digest::number_of;
 use player::call::next;
-use player::taking::new_player;
 use rules::Next;
 use rules::Player;
 use rules::Report;
 use rules::Status;
+use taking::new_player;
 
 // The reply to a frame, by its start byte and, of a command, its code: the ACK, a pair of 06h, or the ACK and a sum, which stand in this
 // order in `all`.
@@ -90,7 +90,7 @@ fn call_once(
         return t;
     }
     let reply = reply_to(replies, last, frame[0], frame[2]);
-    let c = next(flash::finder::small(), sheet, p, reply, frame, sums);
+    let c = next(finder::small(), sheet, p, reply, frame, sums);
     let given = c.next;
     let n = size_of(given);
     let r = c.report;

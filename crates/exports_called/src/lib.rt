@@ -30,7 +30,7 @@ pub extern "C" fn rattle_called_once(
     reply: &mut [u8],
 ) -> usize {
     let changed = hear(
-        flash::finder::small(),
+        finder::small(),
         starting(start),
         byte,
         held,

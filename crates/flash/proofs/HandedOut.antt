@@ -12,11 +12,12 @@ use Rattle.rules.specs.declared.Pages.{Pages}
 use Rattle.rules.specs.Chip.{Memory, flashOf, flashSize, pageSize, pages, fits, pageShown, pageOf, putPage, putPart}
 use Rattle.rules.specs.Frame.{statusByte}
 use Rattle.rules.specs.StandIn.{pageFault, pageWritten}
-use Rattle.flash.specs.Lent.{pageThere, programmed}
-use Rattle.flash.proofs.Choices.{both}
-use Rattle.flash.proofs.Geometry.{in-pages}
+use Rattle.finder.specs.Lent.{pageThere}
+use Rattle.flash.specs.Writing.{programmed}
+use Rattle.rules.proofs.Choices.{both}
+use Rattle.finder.proofs.Geometry.{in-pages}
 use Rattle.flash.proofs.Memories.{with-of}
-use Rattle.flash.proofs.Parts.{inside, length-part, length-put, part-put, part-put-other, shown-there}
+use Rattle.finder.proofs.Parts.{inside, length-part, length-put, part-put, part-put-other, shown-there}
 
 -- what is known of a page that is there: `page_mut` hands out `pageShown`, `program_page` writes over `pageOf`
 pub record HandedOut (chip : Chip) (m : Memory) (f : Flash) (k : ℕ) : Type 0 where

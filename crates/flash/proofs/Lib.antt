@@ -1,10 +1,3 @@
-pub mod Choices
-pub mod Geometry
 pub mod HandedOut
-pub mod Lists
 pub mod Memories
-pub mod Parts
-pub mod Places
-pub mod Spots
-pub mod ThereAndBack
 pub mod Writes

@@ -14,14 +14,14 @@ use Rattle.rules.specs.declared.Pages.{Pages}
 use Rattle.rules.specs.Chip.{Memory, flashOf, withFlash, blockSize, blocks, pageSize, pages, blank, blankByte, partOf, putPart, fits}
 use Rattle.rules.specs.Frame.{first}
 use Rattle.rules.specs.StandIn.{pageFault, pageWritten}
-use Rattle.flash.specs.declared.finder.Place.the-variants.{Missing}
-use Rattle.flash.specs.Lent.{wrote, erasedAt, programmed}
-use Rattle.flash.specs.OneFlash.{isThere, placeOf, erasedPart, Written, written, pageStatus, programmedPart}
-use Rattle.flash.proofs.Choices.{both}
-use Rattle.flash.proofs.Geometry.{in-pages}
+use Rattle.finder.specs.declared.Place.the-variants.{Missing}
+use Rattle.finder.specs.OneFlash.{isThere, placeOf}
+use Rattle.flash.specs.Writing.{wrote, erasedAt, programmed, erasedPart, Written, written, pageStatus, programmedPart}
+use Rattle.rules.proofs.Choices.{both}
+use Rattle.finder.proofs.Geometry.{in-pages}
 use Rattle.flash.proofs.Memories.{with-own, with-cond, with-fits}
-use Rattle.flash.proofs.Parts.{inside, length-put}
-use Rattle.flash.proofs.Places.{Placed, is-there, not-there, part-cut, cut-length, part-back}
+use Rattle.finder.proofs.Parts.{inside, length-put}
+use Rattle.finder.proofs.Places.{Placed, is-there, not-there, part-cut, cut-length, part-back}
 
 -- ---- erasing ----
 
@@ -61,10 +61,9 @@ erased-fits chip m f b g =
     (with-fits chip m f (erasedPart (blockSize f) (blocks chip f) (b .0) (flashOf m f)) g (erased-length (blockSize f) (blocks chip f) (b .0) (flashOf m f)))
 
 -- the same, as the arm of one flash knows it
-pub erased-by : (chip : Chip) (m : Memory) (f : Flash) (b : Block) (g : Flash) → f ≡ g
-    → (size count : ℕ) → size ≡ blockSize f → count ≡ blocks chip f
-    → (xs : List ℕ) → xs ≡ erasedPart size count (b .0) (flashOf m g) → withFlash m g xs ≡ erasedAt chip m f b
-erased-by chip m f b g e size count s n xs q = rw (erased-at chip m f b, q, s, n, e)
+pub erased-by : (chip : Chip) (m : Memory) (f : Flash) (b : Block) (g : Flash) → f ≡ g → (xs : List ℕ)
+    → xs ≡ erasedPart (blockSize f) (blocks chip f) (b .0) (flashOf m g) → withFlash m g xs ≡ erasedAt chip m f b
+erased-by chip m f b g e xs q = rw (erased-at chip m f b, q, e)
 
 -- ---- programming ----
 
@@ -119,11 +118,10 @@ programmed-at chip guarded m p body =
     rw (in-pages chip f)
     (spread (fits chip m f && ltb k (pages chip f)) (eqb st 0x06) st m f (putPart pageSize k body (flashOf m f)))
 
-pub programmed-by : (chip : Chip) (guarded : Bool) (m : Memory) (p : Pages) (body : List ℕ) (g : Flash) → p .flash ≡ g
-    → (count : ℕ) → count ≡ pages chip (p .flash)
-    → (w : Written) → w ≡ programmedPart count (p .page) guarded body (flashOf m g)
+pub programmed-by : (chip : Chip) (guarded : Bool) (m : Memory) (p : Pages) (body : List ℕ) (g : Flash) → p .flash ≡ g → (w : Written)
+    → w ≡ programmedPart (pages chip (p .flash)) (p .page) guarded body (flashOf m g)
     → wrote (w .status) (withFlash m g (w .flash)) ≡ programmed chip guarded m p body
-programmed-by chip guarded m p body g e count n w q = rw (programmed-at chip guarded m p body, q, n, e)
+programmed-by chip guarded m p body g e w q = rw (programmed-at chip guarded m p body, q, e)
 
 pub programmed-length : (count k : ℕ) (guarded : Bool) (body flash : List ℕ) → length body ≡ pageSize
     → length (programmedPart count k guarded body flash .flash) ≡ length flash

@@ -1,23 +1,20 @@
 // Erasing one block.
-use crate::bytes::fill;
-use crate::finder::Place;
-use crate::finder::block_size;
-use crate::finder::blocks_of;
-use crate::finder::place_of;
+use finder::Place;
+use finder::block_place;
 use rules::Block;
 use rules::Chip;
 use rules::Flash;
+use spans::fill;
 ghost use mathlib.Core.Path.{_≡_};
-ghost use Prim.Native.Nat.{_≤_};
-ghost use Rattle.flash.specs.Lent.{memory, erasedAt};
-ghost use Rattle.flash.specs.OneFlash.{erasedPart};
+ghost use Rattle.rules.specs.Chip.{blockSize, blocks};
+ghost use Rattle.finder.specs.Lent.{memory};
+ghost use Rattle.flash.specs.Writing.{erasedAt, erasedPart};
 
-// Part `n` of a flash is filled with FFh; where it is not there nothing changes.
-fn erase_in(flash: &mut [u8], size: usize, count: usize, n: usize)
-    requires { ⌜ (size ≤ 2048) × (count ≤ 524288) ⌝ }
-    ensures { λ _. ⌜ now (flash .exit) ≡ erasedPart size count n (now (flash .entry)) ⌝ }
+// A block of the one flash that is lent is filled with FFh; where it is not there nothing changes.
+fn erase_in(chip: Chip, f: Flash, flash: &mut [u8], b: Block)
+    ensures { λ _. ⌜ now (flash .exit) ≡ erasedPart (blockSize f) (blocks chip f) (b .0) (now (flash .entry)) ⌝ }
 {
-    let Place::Bytes(at, end) = place_of(flash.len(), size, count, n, n) else {
+    let Place::Bytes(at, end) = block_place(chip, f, flash.len(), b) else {
         return;
     };
     fill(&mut flash[at..end], 0xFF);
@@ -27,11 +24,8 @@ fn erase_in(flash: &mut [u8], size: usize, count: usize, n: usize)
 pub fn erase_block(chip: Chip, code: &mut [u8], data: &mut [u8], f: Flash, b: Block)
     ensures { λ _. ⌜ memory (now (code .exit)) (now («data» .exit)) ≡ erasedAt chip (memory (now (code .entry)) (now («data» .entry))) f b ⌝ }
 {
-    let size = block_size(f);
-    let count = blocks_of(chip, f) as usize;
-    let n = b.0 as usize;
     match f {
-        Flash::Code => erase_in(code, size, count, n),
-        Flash::Data => erase_in(data, size, count, n),
+        Flash::Code => erase_in(chip, f, code, b),
+        Flash::Data => erase_in(chip, f, data, b),
     }
 }

@@ -1,21 +1,19 @@
 // A page written or left, and a page compared.
-use crate::bytes::copy;
-use crate::bytes::is_blank;
-use crate::bytes::same_bytes;
-use crate::finder::PAGE_SIZE;
-use crate::finder::Place;
-use crate::finder::pages_of;
-use crate::finder::part_of;
-use crate::finder::place_of;
+use finder::PAGE_SIZE;
+use finder::Place;
+use finder::page_in;
+use finder::page_place;
 use rules::Chip;
 use rules::Flash;
 use rules::Pages;
+use spans::copy;
+use spans::is_blank;
+use spans::same_bytes;
 ghost use mathlib.Core.Path.{_≡_};
-ghost use Prim.Native.Nat.{_≤_};
 ghost use lib.ListN.{length, take, drop};
-ghost use Rattle.rules.specs.Chip.{same, pageSize, shown, pageShown};
-ghost use Rattle.flash.specs.Lent.{memory, programmed, wrote};
-ghost use Rattle.flash.specs.OneFlash.{written, pageStatus, programmedPart};
+ghost use Rattle.rules.specs.Chip.{same, pageSize, pages, shown, pageShown};
+ghost use Rattle.finder.specs.Lent.{memory};
+ghost use Rattle.flash.specs.Writing.{programmed, wrote, written, pageStatus, programmedPart};
 
 // The 256 bytes of a data frame between its LEN and its SUM.
 fn body_of<'a>(frame: &'a [u8; 260]) -> &'a [u8]
@@ -53,12 +51,18 @@ pub fn page_for_writing<'a>(part: &'a mut [u8]) -> &'a mut [u8]
     }
 }
 
-// Page `k` of one flash gets the body of a data frame, unless it is guarded or not blank; its write status.
-fn program_in(flash: &mut [u8], count: usize, k: usize, guarded: bool, frame: &[u8; 260]) -> u8
-    requires { ⌜ count ≤ 524288 ⌝ }
-    ensures { λ r. ⌜ written r (now (flash .exit)) ≡ programmedPart count k guarded (take 256 (drop 2 (now (frame .entry)))) (now (flash .entry)) ⌝ }
+// Page `k` of the one flash that is lent gets the body of a data frame, unless it is guarded or not blank; its write status.
+fn program_in(
+    chip: Chip,
+    f: Flash,
+    flash: &mut [u8],
+    k: usize,
+    guarded: bool,
+    frame: &[u8; 260],
+) -> u8
+    ensures { λ r. ⌜ written r (now (flash .exit)) ≡ programmedPart (pages chip f) k guarded (take 256 (drop 2 (now (frame .entry)))) (now (flash .entry)) ⌝ }
 {
-    let Place::Bytes(at, end) = place_of(flash.len(), PAGE_SIZE, count, k, k) else {
+    let Place::Bytes(at, end) = page_place(chip, f, flash.len(), k) else {
         return 0x05;
     };
     let status = page_status(guarded, &flash[at..end]);
@@ -86,20 +90,17 @@ pub fn program_page(
     ensures { λ r. ⌜ wrote r (memory (now (code .exit)) (now («data» .exit))) ≡ programmed chip guarded (memory (now (code .entry)) (now («data» .entry))) p (take 256 (drop 2 (now (frame .entry)))) ⌝ }
 {
     let f = p.flash;
-    let k = p.page;
-    let count = pages_of(chip, f);
     match f {
-        Flash::Code => program_in(code, count, k, guarded, frame),
-        Flash::Data => program_in(data, count, k, guarded, frame),
+        Flash::Code => program_in(chip, f, code, p.page, guarded, frame),
+        Flash::Data => program_in(chip, f, data, p.page, guarded, frame),
     }
 }
 
-// Page `k` of one flash holds the body of a data frame.
-fn equals_in(flash: &[u8], count: usize, k: usize, frame: &[u8; 260]) -> bool
-    requires { ⌜ count ≤ 524288 ⌝ }
-    ensures { λ r. ⌜ r ≡ same (shown pageSize count k (now (flash .entry))) (take 256 (drop 2 (now (frame .entry)))) ⌝ }
+// Page `k` of the one flash that is lent holds the body of a data frame.
+fn equals_in(chip: Chip, f: Flash, flash: &[u8], k: usize, frame: &[u8; 260]) -> bool
+    ensures { λ r. ⌜ r ≡ same (shown pageSize (pages chip f) k (now (flash .entry))) (take 256 (drop 2 (now (frame .entry)))) ⌝ }
 {
-    same_bytes(part_of(flash, PAGE_SIZE, count, k), body_of(frame))
+    same_bytes(page_in(chip, f, flash, k), body_of(frame))
 }
 
 // The page in hand holds the 256 bytes of a received data frame.
@@ -107,10 +108,8 @@ pub fn page_equals(chip: Chip, p: Pages, code: &[u8], data: &[u8], frame: &[u8; 
     ensures { λ r. ⌜ r ≡ same (pageShown chip (memory (now (code .entry)) (now («data» .entry))) (p .flash) (p .page)) (take 256 (drop 2 (now (frame .entry)))) ⌝ }
 {
     let f = p.flash;
-    let k = p.page;
-    let count = pages_of(chip, f);
     match f {
-        Flash::Code => equals_in(code, count, k, frame),
-        Flash::Data => equals_in(data, count, k, frame),
+        Flash::Code => equals_in(chip, f, code, p.page, frame),
+        Flash::Data => equals_in(chip, f, data, p.page, frame),
     }
 }

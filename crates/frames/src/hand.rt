@@ -24,7 +24,7 @@ pub fn empty() -> Hand {
         sums: 64,
         room: 260,
         begun: false,
-        player: player::taking::new_player(),
+        player: taking::new_player(),
     }
 }
 
@@ -53,7 +53,7 @@ pub fn lend_room(h: Hand, n: usize) -> Hand {
 pub fn begin(h: Hand) -> Hand {
     let mut h = h;
     h.begun = true;
-    h.player = player::taking::new_player();
+    h.player = taking::new_player();
     h
 }
 
@@ -68,7 +68,7 @@ fn least(a: usize, b: usize) -> usize
 
 // The player's call; what it answers is written.
 fn next(p: Player, sheet: &[u8], reply: &[u8], frame: &mut [u8], sums: &mut [u16]) -> Player {
-    let chip = flash::finder::small();
+    let chip = finder::small();
     let c = player::call::next(chip, sheet, p, reply, frame, sums);
     let next = c.next;
     let report = c.report;

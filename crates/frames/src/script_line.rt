@@ -46,7 +46,7 @@ fn room_line(text: &[u8]) -> Line {
 
 // `< HH HH ..`, or `<` alone for an empty reply.
 fn reply_line(text: &[u8]) -> Line {
-    if flash::bytes::same_bytes(text, b"<") {
+    if spans::same_bytes(text, b"<") {
         return Line::Reply;
     }
     if starts_with(text, b"< ") {
@@ -66,7 +66,7 @@ pub fn parse(text: &[u8], begun: bool) -> Line {
     if starts_with(text, b"room ") {
         return room_line(text);
     }
-    if flash::bytes::same_bytes(text, b"go") {
+    if spans::same_bytes(text, b"go") {
         return Line::Go;
     }
     if starts_with(text, b"go ") {

@@ -1,4 +1,2 @@
-pub mod Judged
-pub mod Starting
 pub mod Turning
-pub mod Waiting
+pub mod Within

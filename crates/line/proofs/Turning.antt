@@ -20,8 +20,9 @@ use Rattle.rules.specs.Run.{clean, Joined, joining, joined, turned}
 use Rattle.standin.specs.Feeding.{Feeding, feeding, fedInto}
 use Rattle.standin.proofs.Whole.{feed-frame, fed-frame, joined-told}
 use Rattle.moves.proofs.Onward.{emitted-stands}
-use Rattle.player.specs.Parts.{Gave, gave, gaveBy, gives, takesIn}
-use Rattle.player.proofs.Gives.{gives-emitted}
+use Rattle.giving.specs.Giving.{Gave, gave, gaveBy, gives}
+use Rattle.taking.specs.Taking.{takesIn}
+use Rattle.giving.proofs.Gives.{gives-emitted}
 use Rattle.turns.specs.Hears.{hears}
 use Rattle.turns.specs.Turns.{Framed}
 use Rattle.turns.proofs.Turns.{turn-as}

@@ -1,4 +1,4 @@
--- What has to be for a turn. Assumes nothing.
+-- What has to be for a turn, and for a step. Assumes nothing.
 use Prim.Native.Nat.{ℕ, _≤_}
 use mathlib.Core.Path.{_≡_}
 use mathlib.Core.Bool.{false}
@@ -9,7 +9,7 @@ use Rattle.rules.specs.declared.Verdict.the-variants.{Accepted}
 use Rattle.rules.specs.Sheet.{verdict}
 use Rattle.rules.specs.Player.{lost}
 use Rattle.rules.specs.Run.{Joined}
-use Rattle.turns.specs.Turns.{Fit, Framed}
+use Rattle.turns.specs.Turns.{Sized, Fit, Begins, Framed}
 
 -- the sheet is accepted, and the buffers have room
 pub record Rooms (chip : Chip) (s : List ℕ) (j : Joined) : Type 0 where
@@ -23,3 +23,9 @@ pub record Turns (chip : Chip) (s : List ℕ) (j : Joined) : Type 0 where
   pub found : lost chip s (j .player) ≡ false
   pub fit : Fit chip (j .state .memory)
   pub framed : Framed chip s j
+
+-- a step: the player is at its beginning
+pub record Starts (chip : Chip) (s : List ℕ) (j : Joined) : Type 0 where
+  pub rooms : Rooms chip s j
+  pub sized : Sized chip
+  pub begins : Begins chip s j

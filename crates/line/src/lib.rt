@@ -1,10 +1,10 @@
-// A line that neither loses nor alters a byte, with the player at one end and the stand-in at the other: what has to be before a turn
-// is made, and one turn.
+// A line that neither loses nor alters a byte, with the player at one end and the stand-in at the other: one turn, and
+// one step turn by turn.
 use device::Core;
 use rules::Player;
 
-pub mod checks;
-pub mod turn;
+pub mod step;
+mod turn;
 
 // Player and stand-in between two turns, and how many bytes of the reply buffer are the last answer.
 pub struct Rig {

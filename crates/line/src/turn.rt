@@ -1,12 +1,12 @@
 // One turn: the frame is given, the stand-in takes it byte by byte, and the answer is taken in.
 use crate::Rig;
-use player::giving::emit;
-use player::taking::absorb;
+use giving::emit;
 use rules::Call;
 use rules::Chip;
 use rules::Player;
 use rules::Stage;
 use standin::feeding::feed;
+use taking::absorb;
 ghost use mathlib.Core.Path.{_≡_};
 ghost use lib.ListN.{length, take};
 ghost use Rattle.rules.specs.Run.{clean, turned, between};
@@ -34,7 +34,7 @@ fn first<'a>(s: &'a [u8], n: usize) -> &'a [u8]
 }
 
 // Between two steps: at the beginning of one, or finished or stopped.
-pub fn between(p: Player) -> bool
+pub(crate) fn between(p: Player) -> bool
     ensures { λ r. ⌜ r ≡ between p ⌝ }
 {
     let stage = p.stage;
@@ -50,7 +50,7 @@ pub fn between(p: Player) -> bool
     }
 }
 
-pub fn turn(
+pub(crate) fn turn(
     chip: Chip,
     sheet: &[u8],
     r: Rig,

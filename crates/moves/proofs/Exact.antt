@@ -13,7 +13,7 @@ use Rattle.rules.specs.declared.Status.the-variants.{Byte, L1}
 use Rattle.rules.specs.Chip.{byteAt, wordBytes, total}
 use Rattle.rules.specs.Frame.{dataStart, lastEnd, frame, lenByte, sumByte, one, pair}
 use Rattle.rules.specs.Player.{well, framed, commandReply, sumReply, sumIn, dataReply}
-use Rattle.flash.proofs.Choices.{apart, both, picked}
+use Rattle.rules.proofs.Choices.{apart, both, picked}
 use Rattle.sheet.proofs.Tests.{all-five}
 use Rattle.wire.proofs.Sum.{total-frame, sum-byte}
 use Rattle.moves.specs.Bytes.{Bytes}

@@ -23,7 +23,7 @@ use Rattle.rules.specs.Chip.{pagesPerBlock, blocks}
 use Rattle.rules.specs.Sheet.{mostSteps, count, stepAt, stepBlocks, stepPages, verdict}
 use Rattle.rules.specs.Player.{player, well, isWell, commandReply, sumReply, sumIn, dataReply, beginning, finished, absorbed, counted, emitted, awaits, lost, playerVerdict, played, called, Sent, silent, emitBy}
 use Rattle.rules.specs.Run.{mostFor, mostFrames, mostFrom, mostCalls}
-use Rattle.flash.proofs.Choices.{apart}
+use Rattle.rules.proofs.Choices.{apart}
 use Rattle.sheet.proofs.Accepted.{sound, whole}
 use Rattle.moves.specs.Calls.{framesAt, leftBy, later, callsLeft, mostPages, rankFrom, rankBy, rank, mostRank}
 use Rattle.moves.proofs.Moves.{absorb-new, absorb-ready, absorb-ahead, absorb-over, absorb-opened, absorb-opened-stop, absorb-sum, absorb-sum-stop, absorb-erase-on, absorb-erase-last, absorb-erase-stop, absorb-page-on, absorb-page-last, absorb-page-stop, emit-over, emit-erase, emit-write, emit-verify, emit-sum, emit-page, call-played}

@@ -12,7 +12,7 @@ use Rattle.rules.specs.declared.Status.the-variants.{Byte, L1}
 use Rattle.rules.specs.Chip.{byteAt, wordBytes, total}
 use Rattle.rules.specs.Frame.{dataStart, lastEnd, frame, one, pair}
 use Rattle.rules.specs.Player.{well, framed, commandReply, sumReply, sumIn, dataReply, isWell}
-use Rattle.flash.proofs.Choices.{apart}
+use Rattle.rules.proofs.Choices.{apart}
 use Rattle.wire.proofs.Buffers.{length-frame}
 use Rattle.wire.proofs.Built.{frame-sum, frame-end}
 

@@ -19,7 +19,7 @@ use Rattle.rules.specs.declared.Verdict.the-variants.{Accepted, Refused}
 use Rattle.rules.specs.Sheet.{count, stepAt, stepBlocks, stepPages, andThen, verdict}
 use Rattle.rules.specs.Player.{awaits, lostIn, lost, frameRoom, playerVerdict}
 use Rattle.rules.proofs.Sheet.{refused≢accepted}
-use Rattle.flash.proofs.Choices.{apart, both}
+use Rattle.rules.proofs.Choices.{apart, both}
 
 -- ---- what a kind awaits ----
 

@@ -17,10 +17,10 @@ use Rattle.rules.specs.declared.Task.the-variants.{Programming, Verifying}
 use Rattle.rules.specs.Chip.{Memory, same, flashOf, flashSize, pages, pageOf, pageShown}
 use Rattle.rules.specs.Frame.{lenOf, endOf, bodyOf, bodySize, endDue, sumHolds, pair, statusByte, check, first, dataFault}
 use Rattle.rules.specs.StandIn.{State, Out, Outcome, out, rest, later, lastPage, pageFault, pageWritten, pageGuarded, ended, onPage, compared, onCompare, ahead, answered}
-use Rattle.flash.specs.Lent.{Wrote, wrote, programmed}
-use Rattle.flash.proofs.Choices.{both}
-use Rattle.flash.proofs.Geometry.{in-pages, pages-bound}
-use Rattle.flash.proofs.Parts.{shown-there}
+use Rattle.flash.specs.Writing.{Wrote, wrote, programmed}
+use Rattle.rules.proofs.Choices.{both}
+use Rattle.finder.proofs.Geometry.{in-pages, pages-bound}
+use Rattle.finder.proofs.Parts.{shown-there}
 use Rattle.wire.specs.Buffer.{frameIn}
 use Rattle.wire.proofs.Frames.{len-in, body-in}
 use Rattle.device.specs.View.{Fits}

@@ -15,7 +15,7 @@ ghost use lib.ListN.{length};
 ghost use Rattle.rules.specs.StandIn.{ahead, later, onPage, onCompare, answered, out, rest};
 ghost use Rattle.rules.specs.Chip.{Memory};
 ghost use Rattle.rules.specs.Frame.{pair};
-ghost use Rattle.flash.specs.Lent.{memory};
+ghost use Rattle.finder.specs.Lent.{memory};
 ghost use Rattle.wire.specs.Buffer.{frameIn};
 ghost use Rattle.device.specs.View.{idle, heard, Fits};
 
@@ -70,7 +70,7 @@ pub fn on_page(
 {
     let last = p.left == 1;
     let status_before = p.status;
-    let line = wire::judge::status_byte(wire::judge::judge_data(frame, last));
+    let line = judge::status_byte(judge::judge_data(frame, last));
     if line != 0x06 {
         return paired(c, Task::Idle, line, status_before, reply);
     }
@@ -79,7 +79,7 @@ pub fn on_page(
     }
     let o = c.options;
     let f = p.flash;
-    let guarded = options::page_protected(o, f, p.page);
+    let guarded = protect::page_protected(o, f, p.page);
     let st = flash::pages::program_page(chip, guarded, p, code, data, frame);
     if last {
         return paired(c, Task::Idle, 0x06, st, reply);
@@ -103,7 +103,7 @@ pub fn on_compare(
 {
     let last = p.left == 1;
     let before = p.status;
-    let line = wire::judge::status_byte(wire::judge::judge_data(frame, last));
+    let line = judge::status_byte(judge::judge_data(frame, last));
     if line != 0x06 {
         return paired(c, Task::Idle, line, 0x06, reply);
     }

@@ -9,7 +9,7 @@ use text::part;
 
 // The sheet played to a fresh chip that was powered on and opened.
 fn play(sheet: &[u8]) {
-    let chip = flash::finder::small();
+    let chip = finder::small();
     let mut code = [0xFFu8; 32768];
     let mut data = [0xFFu8; 2048];
     let mut answers = [0u8; 32];

@@ -1,4 +1,2 @@
-pub mod Gives
 pub mod Outcomes
 pub mod Refusals
-pub mod Sums

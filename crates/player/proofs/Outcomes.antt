@@ -2,11 +2,9 @@
 use mathlib.Core.Path.{_≡_, sym, ap, _∙_}
 use mathlib.Core.List.{List}
 use Prim.Native.Nat.{ℕ}
-use Rattle.rules.specs.declared.Player.{Player}
-use Rattle.rules.specs.Player.{Absorbed, absorbs}
 use Rattle.rules.specs.Player as rules
 use Rattle.player.specs.declared.call.Called.{Called}
-use Rattle.player.specs.Parts.{Gave, gave, came}
+use Rattle.player.specs.Calls.{came}
 
 -- a player call
 pub one-call : (due : rules.Called) (a b : Called) (x y : List ℕ) (u v : List ℕ)
@@ -21,17 +19,3 @@ one-call due a b x y u v p q =
       ap (λ (c : rules.Called). c .frame) e,
       ap (λ (c : rules.Called). c .sums) e,
     )
-
--- a reply taken in
-pub one-taking : (due : Absorbed) (a b : Player) (u v : List ℕ) → absorbs a u ≡ due → absorbs b v ≡ due → (a ≡ b) × (u ≡ v)
-one-taking due a b u v p q =
-    let e = p ∙ sym q in (ap (λ (c : Absorbed). c .player) e, ap (λ (c : Absorbed). c .sums) e)
-
--- a frame given
-pub one-giving : (due : Gave) (a b : Player) (m n : ℕ) (x y : List ℕ)
-    → gave a m x ≡ due
-    → gave b n y ≡ due
-    → (a ≡ b) × (m ≡ n) × (x ≡ y)
-one-giving due a b m n x y p q =
-    let e = p ∙ sym q in
-    (ap (λ (c : Gave). c .player) e, ap (λ (c : Gave). c .sent) e, ap (λ (c : Gave). c .frame) e)

@@ -1,11 +1,12 @@
 -- A player call: which refusal it names, and, where it names none, that it is the frame given after the reply was taken in. Assumes nothing.
-use mathlib.Core.Path.{_≡_, sym, ap, _∙_}
+use mathlib.Core.Path.{_≡_, refl, sym, ap, _∙_}
 use mathlib.Core.Bool.{true, false, cond}
-use mathlib.Core.List.{List}
+use mathlib.Core.List.{List, [], _∷_}
 use Prim.Native.Nat.{ℕ, _<_, _≤_}
+use native.Mathlib.Omega.{arith}
 use lib.Dec.{eqb}
 use lib.ListN.{length}
-use borrow.Author.Tests.{lt-ltb, le-ltb}
+use borrow.Author.Tests.{lt-ltb, le-ltb, ne-eqb}
 use Rattle.rules.specs.declared.Chip.{Chip}
 use Rattle.rules.specs.declared.Next.{Next}
 use Rattle.rules.specs.declared.Next.the-variants.{Refused, Frame, End}
@@ -20,8 +21,14 @@ use Rattle.rules.specs.Player.{Absorbed, absorbs, absorbed, emitted, reportOf, 
 use Rattle.moves.proofs.Moves.{call-refused, call-played}
 use Rattle.moves.proofs.Onward.{absorbed-stands}
 use Rattle.moves.proofs.Stands.{call-allowed}
-use Rattle.player.specs.Parts.{Gave, gave, gaveBy, gives}
-use Rattle.player.proofs.Gives.{gives-emitted, next-is}
+use Rattle.taking.specs.Taking.{takesIn}
+use Rattle.giving.specs.Giving.{Gave, gave, gaveBy, gives}
+use Rattle.giving.proofs.Gives.{gives-emitted}
+
+-- the answer of a call by the bytes given
+next-is : (bytes : List ℕ) → cond (eqb (length bytes) 0) End (Frame (length bytes)) ≡ nextOf bytes
+next-is [] = refl
+next-is (b ∷ bs) = rw (ne-eqb (length (b ∷ bs)) 0 (λ e. omega arith))
 
 module _ (chip : Chip) (s : List ℕ) (p : Player) (r buffer sums : List ℕ) where
   -- "A player call names a J refusal first"
@@ -37,9 +44,12 @@ module _ (chip : Chip) (s : List ℕ) (p : Player) (r buffer sums : List ℕ) wh
 
     module _ (room : frameRoom ≤ length buffer) where
       -- "then P2"
-      pub refused-P2 : lost chip s p ≡ true → called chip s p r buffer sums ≡ calls p (Refused P2) buffer sums
-      unfolding playerVerdict
-      refused-P2 h = call-refused chip s p r buffer sums P2 (rw (ok, le-ltb (length buffer) frameRoom room, h))
+      pub refused-P2 : lost chip s p ≡ true → (q : Player) (sums2 : List ℕ) → absorbs q sums2 ≡ takesIn chip s p r sums
+          → called chip s p r buffer sums ≡ calls p (Refused P2) buffer sums2
+      unfolding playerVerdict takesIn
+      refused-P2 h q sums2 taken =
+          call-refused chip s p r buffer sums P2 (rw (ok, le-ltb (length buffer) frameRoom room, h))
+          ∙ ap (calls p (Refused P2) buffer) (sym (ap (λ (a : Absorbed). a .sums) taken ∙ rw h))
 
       module _ (h : lost chip s p ≡ false) where
         -- A CALL IS `emitted` AFTER `absorbed`
@@ -51,7 +61,11 @@ module _ (chip : Chip) (s : List ℕ) (p : Player) (r buffer sums : List ℕ) wh
             call-played chip s p r buffer sums (call-allowed chip s p (length buffer) (length sums) ok room h)
 
         -- the parts of a call, each as it came
-        module _ (q : Player) (sums2 : List ℕ) (taken : absorbs q sums2 ≡ absorbed chip s p r sums) where
+        module _ (q : Player) (sums2 : List ℕ) (took : absorbs q sums2 ≡ takesIn chip s p r sums) where
+          taken : absorbs q sums2 ≡ absorbed chip s p r sums
+          unfolding takesIn
+          taken = took ∙ rw h
+
           still : lost chip s q ≡ false
           still =
               ap (λ (a : Absorbed). lost chip s (a .player)) taken ∙ absorbed-stands chip s (length sums) ok p r sums h

@@ -1,8 +1,6 @@
 // A player call: the reply is taken in, the next frame given.
-use crate::giving::emit;
-use crate::place::is_lost;
 use crate::report::report;
-use crate::taking::absorb_in;
+use giving::emit;
 use rules::Chip;
 use rules::Next;
 use rules::Player;
@@ -10,14 +8,13 @@ use rules::Refusal;
 use rules::Report;
 use rules::Verdict;
 use sheet::judge::verdict;
-use sheet::read::count;
-use sheet::read::step_at;
+use taking::take_in;
 ghost use mathlib.Core.Path.{_≡_};
 ghost use mathlib.Core.Bool.{cond};
 ghost use lib.Dec.{eqb};
 ghost use Rattle.rules.specs.declared.Next.the-variants.{Refused, Frame, End};
 ghost use Rattle.rules.specs.Player.{reportOf, called};
-ghost use Rattle.player.specs.Parts.{came};
+ghost use Rattle.player.specs.Calls.{came};
 
 // The record after a call, what the call answered, and the report.
 pub struct Called {
@@ -63,12 +60,11 @@ pub fn next(
     if frame.len() < 260 {
         return stands(p, Refusal::P1);
     }
-    let t = step_at(chip, sheet, p.step);
-    if is_lost(count(sheet), t, p) {
+    let took = take_in(chip, sheet, p, reply, sums);
+    if took.lost {
         return stands(p, Refusal::P2);
     }
-    let taken = absorb_in(chip, sheet, t, p, reply, sums);
-    let given = emit(chip, sheet, taken, frame);
+    let given = emit(chip, sheet, took.player, frame);
     let player = given.player;
     Called {
         player,

@@ -2,14 +2,12 @@
 use bench::Answer;
 use bench::step::play_step;
 use bench::whole::is_over;
+use checks::Lent;
+use checks::refusal;
+use checks::waits;
 use device::Core;
 use line::Rig;
-use line::checks::Lent;
-use line::checks::refusal;
-use line::checks::waits;
 use player::report::report;
-use player::taking::absorb;
-use player::taking::new_player;
 use rules::Chip;
 use rules::Player;
 use rules::Stage;
@@ -17,6 +15,8 @@ use rules::Verdict;
 use sheet::read::step_at;
 use std::num::wrapping_add_usize;
 use std::num::wrapping_sub_usize;
+use taking::absorb;
+use taking::new_player;
 use text::told;
 
 // The most steps that a sheet has, and so the entries that a list of sums needs.
@@ -132,7 +132,7 @@ fn play_with(
     frame: &mut [u8],
     sums: &mut [u16],
 ) -> Core {
-    let chip = flash::finder::small();
+    let chip = finder::small();
     let lent = Lent {
         code: code.len(),
         data: data.len(),

@@ -13,7 +13,7 @@ use Rattle.rules.specs.declared.Status.the-variants.{Byte, L1}
 use Rattle.rules.specs.Chip.{byteAt, total, same}
 use Rattle.rules.specs.Frame.{dataStart, lastEnd}
 use Rattle.rules.specs.Player.{well, framed, commandReply, sumReply, dataReply}
-use Rattle.flash.proofs.Lists.{same-equal}
+use Rattle.spans.proofs.Lists.{same-equal}
 use Rattle.wire.proofs.Sum.{total-frame, sum-same}
 
 -- ---- the tests, one after the other ----

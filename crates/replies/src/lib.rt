@@ -1,7 +1,7 @@
 // Replies: exactly what is due, or L1. A reply is compared with the fixed frame of `wire` first; only what differs from it is decoded.
-use flash::bytes::same_bytes;
+use entries::byte_at;
 use rules::Status;
-use sheet::read::byte_at;
+use spans::same_bytes;
 use wire::build::ACK;
 use wire::build::WELL;
 use wire::build::sum_of;

@@ -8,7 +8,7 @@ use lib.Dec.{ltb, leb, eqb}
 use lib.ListN.{length, drop, length-drop}
 use lib.Seq.{length-take-le}
 use borrow.Author.Tests.{ltb-false, leb-true, eqb-true, eqb-false, not-false, le-ltb}
-use Rattle.flash.proofs.Geometry.{blocks-in-pages}
+use Rattle.finder.proofs.Geometry.{blocks-in-pages}
 use Rattle.rules.specs.declared.Chip.{Chip}
 use Rattle.rules.specs.declared.Flash.{Flash}
 use Rattle.rules.specs.declared.Flash.the-variants.{Code, Data}
@@ -20,10 +20,11 @@ use Rattle.rules.specs.Chip.{blocks, blockSize, pageSize, pagesPerBlock}
 use Rattle.rules.specs.Sheet.{count, tableEnd, kindAt, sadAt, eadAt, offsetAt, offsetDue, rangeAt, bodyLength, bodyEnd, verdict, kindOf, stepOf, stepAt, stepBlocks, stepPages, bodyPage}
 use Rattle.rules.specs.Numbers.{kindNumber}
 use Rattle.rules.proofs.Sheet.{EntryAllowed, accepted-allowed, allowed-accepted}
-use Rattle.flash.proofs.Choices.{both}
+use Rattle.rules.proofs.Choices.{both}
 use Rattle.sheet.specs.declared.Reading.the-variants.{Is}
-use Rattle.sheet.specs.Reading.{lengthOf, readingAt}
-use Rattle.sheet.proofs.Fields.{one-span}
+use Rattle.sheet.specs.Reading.{readingAt}
+use Rattle.entries.specs.Entry.{lengthOf}
+use Rattle.entries.proofs.Fields.{one-span}
 use Rattle.sheet.proofs.Ranges.{Ranged, ranged}
 use Rattle.sheet.proofs.Tests.{neither}
 use Rattle.sheet.proofs.Verdicts.{step-there}

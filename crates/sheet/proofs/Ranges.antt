@@ -13,8 +13,8 @@ use Rattle.rules.specs.declared.Address.{Address}
 use Rattle.rules.specs.declared.Block.{Block}
 use Rattle.rules.specs.declared.Range.the-variants.{Blocks}
 use Rattle.rules.specs.Chip.{start, blocks, blockSize, blockAt, blocksFrom, flashSize, within, begins, ends, pairIn, range, invalid}
-use Rattle.flash.proofs.Choices.{both}
-use Rattle.flash.proofs.Geometry.{size-bounds}
+use Rattle.rules.proofs.Choices.{both}
+use Rattle.finder.proofs.Geometry.{size-bounds}
 use Rattle.sheet.proofs.Tests.{apart, all-five}
 
 -- ---- from the first byte of a part to the last byte of a part, over their size ----

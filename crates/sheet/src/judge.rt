@@ -1,11 +1,11 @@
 // The rules: J1 to J10 in the order of the document, each with its own return. No body is read.
-use crate::read::Entry;
-use crate::read::body_end;
-use crate::read::count;
-use crate::read::entry_at;
-use crate::read::offset_due;
-use crate::read::table_end;
-use flash::finder::range;
+use entries::Entry;
+use entries::body_end;
+use entries::count;
+use entries::entry_at;
+use entries::offset_due;
+use entries::table_end;
+use finder::range;
 use rules::Chip;
 use rules::Range;
 use rules::Refusal;
@@ -14,7 +14,7 @@ ghost use mathlib.Core.Path.{_≡_};
 ghost use Prim.Native.Nat.{ℕ};
 ghost use Rattle.rules.specs.Chip.{invalid};
 ghost use Rattle.rules.specs.Sheet.{offsetDue, headVerdict, entryVerdict, entriesVerdict, tailVerdict, verdict};
-ghost use Rattle.sheet.specs.Reading.{entryIn};
+ghost use Rattle.entries.specs.Entry.{entryIn};
 
 // How many bytes a sheet has at least and at most, and how many steps at most.
 const LEAST_BYTES: usize = 2;

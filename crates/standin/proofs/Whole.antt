@@ -17,7 +17,7 @@ use Rattle.rules.specs.Frame.{lenOf, frameSize, whole}
 use Rattle.rules.specs.Command.{phaseNumber}
 use Rattle.rules.specs.StandIn.{State, Out, rest, holding, startOf, taskNow, onFrame, step, feed}
 use Rattle.rules.specs.Run.{joined}
-use Rattle.flash.proofs.Choices.{both}
+use Rattle.rules.proofs.Choices.{both}
 use Rattle.standin.specs.Feeding.{feeding, feedFrom, fedInto}
 use Rattle.engine.proofs.Receives.{begun, more, frame-step, taken}
 

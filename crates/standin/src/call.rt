@@ -12,7 +12,7 @@ ghost use Rattle.rules.specs.declared.Task.the-variants.{Idle};
 ghost use Rattle.rules.specs.Chip.{Memory, small};
 ghost use Rattle.rules.specs.Options.{freshOptions};
 ghost use Rattle.rules.specs.StandIn.{Outcome, Powered, byteCall, powerOn, rest};
-ghost use Rattle.flash.specs.Lent.{memory};
+ghost use Rattle.finder.specs.Lent.{memory};
 ghost use Rattle.engine.specs.View.{came};
 ghost use Rattle.standin.specs.Shows.{shows, poweredPhase};
 
@@ -56,14 +56,14 @@ fn powered_phase(o: Options) -> Phase
 pub fn power_on(d: Device, o: Options, code: &[u8], data: &[u8]) -> Answered
     ensures { λ r. ⌜ record { state = shows (r .device) (memory (now (code .entry)) (now («data» .entry))); call = r .call } ≡ powerOn small (shows d (memory (now (code .entry)) (now («data» .entry)))) o (memory (now (code .entry)) (now («data» .entry))) ⌝ }
 {
-    let chip = flash::finder::small();
-    if !flash::finder::has_size(chip, Flash::Code, code.len()) {
+    let chip = finder::small();
+    if !finder::has_size(chip, Flash::Code, code.len()) {
         return Answered {
             device: d,
             call: Call::Refused(Refusal::D1),
         };
     }
-    if !flash::finder::has_size(chip, Flash::Data, data.len()) {
+    if !finder::has_size(chip, Flash::Data, data.len()) {
         return Answered {
             device: d,
             call: Call::Refused(Refusal::D2),
@@ -95,15 +95,7 @@ pub fn take_byte(
 {
     let mut e = d;
     let c = e.core;
-    let t = engine::take(
-        flash::finder::small(),
-        c,
-        byte,
-        &mut e.frame,
-        code,
-        data,
-        reply,
-    );
+    let t = engine::take(finder::small(), c, byte, &mut e.frame, code, data, reply);
     let n = t.core;
     e.core = n;
     let call = t.call;

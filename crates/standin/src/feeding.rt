@@ -4,7 +4,7 @@ use engine::Change;
 use rules::Call;
 use rules::Chip;
 ghost use mathlib.Core.Path.{_≡_};
-ghost use Rattle.flash.specs.Lent.{memory};
+ghost use Rattle.finder.specs.Lent.{memory};
 ghost use Rattle.engine.specs.View.{view};
 ghost use Rattle.standin.specs.Feeding.{Feeding, feeding, fedInto};
 

@@ -5,7 +5,7 @@ use rules::Chip;
 ghost use mathlib.Core.Path.{_≡_};
 ghost use mathlib.Core.List.{_∷_, _++_};
 ghost use Rattle.rules.specs.Frame.{frame};
-ghost use Rattle.flash.specs.Lent.{memory};
+ghost use Rattle.finder.specs.Lent.{memory};
 ghost use Rattle.engine.specs.View.{view};
 ghost use Rattle.standin.specs.Feeding.{Feeding, feeding, fedInto};
 ghost use Rattle.standin.specs.Opening.{speedBytes, openingBytes};
@@ -16,7 +16,7 @@ fn ident_body(id: &[u8; 10]) -> [u8; 11]
 {
     let mut body = [0x9Cu8; 11];
     let sent: &[u8] = id;
-    flash::bytes::copy(&mut body[1..11], sent);
+    spans::copy(&mut body[1..11], sent);
     body
 }
 

@@ -17,5 +17,5 @@ pub fn rest<'a>(s: &'a [u8], from: usize) -> &'a [u8] {
 }
 
 pub fn starts_with(text: &[u8], s: &[u8]) -> bool {
-    flash::bytes::same_bytes(between(text, 0, s.len()), s)
+    spans::same_bytes(between(text, 0, s.len()), s)
 }

@@ -24,10 +24,10 @@ use Rattle.rules.specs.Chip.{Memory, flashOf, withFlash, flashSize, blockSize, 
 use Rattle.rules.specs.Frame.{bodySize, frameSize, lenOf, bodyOf, endOf, endDue, sumHolds, whole, statusByte, check, dataFault}
 use Rattle.rules.specs.Command.{codeOf, sadOf, commandFault}
 use Rattle.rules.specs.StandIn.{State, Out, rest, startOf, effects, effectOf, onErase, erased, onCommand, lastPage, pageGuarded, pageFault, pageWritten, onPage, onCompare, ahead, taskNow, onTask, onFrame, receive, takes, step, feed}
-use Rattle.flash.proofs.Choices.{both}
-use Rattle.flash.proofs.Geometry.{in-pages}
-use Rattle.flash.proofs.Parts.{inside, length-put}
-use Rattle.flash.proofs.ThereAndBack.{erase-inside}
+use Rattle.rules.proofs.Choices.{both}
+use Rattle.finder.proofs.Geometry.{in-pages}
+use Rattle.finder.proofs.Parts.{inside, length-put}
+use Rattle.finder.proofs.ThereAndBack.{erase-inside}
 use Rattle.pages.proofs.DataFrames.{page-in, len-none}
 use Rattle.command.proofs.Codes.{leaves}
 use Rattle.turns.specs.Turns.{Fit}

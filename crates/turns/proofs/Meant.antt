@@ -19,7 +19,7 @@ use Rattle.rules.specs.Frame.{statusByte, first}
 use Rattle.rules.specs.StandIn.{pageFault, pageWritten, pageGuarded, later, compared}
 use Rattle.rules.specs.Sheet.{stepBlocks, stepPages, bodyOf, bodyPage}
 use Rattle.rules.specs.Meaning.{tried, eraseFrom, writeFrom, done, eraseDone, writePieces, writeDone, stepDone, stepMeaning}
-use Rattle.flash.proofs.Geometry.{blocks-in-pages}
+use Rattle.finder.proofs.Geometry.{blocks-in-pages}
 use Rattle.turns.specs.Turns.{pagesAt, writeOn, sameFrom, verifyOn}
 use Rattle.turns.proofs.Sent.{page-guarded, page-used, page-free, written-guarded, written-used, written-free, compared-same, compared-differs, compared-before}
 

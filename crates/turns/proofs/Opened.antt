@@ -23,7 +23,7 @@ use Rattle.rules.specs.Command.{phaseNumber, rows, lookup, badParameter, idDiff
 use Rattle.rules.specs.StandIn.{State, Out, Fed, out, rest, ack, taskNow, takes, step, feed, powered, afterSpeed, effects, effectOf, onSpeed, onIdent}
 use Rattle.rules.specs.Player.{command}
 use Rattle.rules.specs.Run.{waits}
-use Rattle.flash.proofs.Lists.{same-refl}
+use Rattle.spans.proofs.Lists.{same-refl}
 use Rattle.standin.specs.Opening.{speedBytes, openingBytes}
 use Rattle.turns.specs.Hears.{hears}
 use Rattle.turns.proofs.Sent.{Fresh, hears-well, rest-waits}

@@ -18,7 +18,7 @@ use Rattle.rules.specs.Sheet.{count, verdict, stepAt}
 use Rattle.rules.specs.Meaning.{Done, Ended, ended, stepMeaning, meaningFrom, meaning}
 use Rattle.rules.specs.Player.{player, well, Absorbed, beginning, begun, Sent, reportOf, reportBy}
 use Rattle.rules.specs.Run.{clean, Joined, joining, takenIn, Ran, ran, none, runFrom, mostFrom, run, waits}
-use Rattle.flash.proofs.ThereAndBack.{small-apart}
+use Rattle.finder.proofs.ThereAndBack.{small-apart}
 use Rattle.sheet.proofs.Accepted.{whole}
 use Rattle.moves.proofs.Moves.{absorb-new, emit-over}
 use Rattle.turns.specs.Turns.{Sized, Fit, mostCounted, Begins, StepRuns, Comes, Means}

@@ -31,9 +31,9 @@ use Rattle.rules.specs.Command.{phaseNumber, rows, lookup, allowed, lenDue, cod
 use Rattle.rules.specs.StandIn.{State, Out, Fed, out, rest, startOf, taskNow, onFrame, onTask, onCommand, refused, effects, effectOf, onErase, erased, onProgramming, onVerify, onChecksum, pagesOf, summed, ahead, lastPage, later, pageGuarded, pageFault, pageWritten, onPage, compared, onCompare}
 use Rattle.rules.specs.Player.{command, pairCommand}
 use Rattle.rules.specs.Run.{joined, waitsIn, waits}
-use Rattle.flash.proofs.ThereAndBack.{Apart, erase-there, range-there}
+use Rattle.finder.proofs.ThereAndBack.{Apart, erase-there, range-there}
 use Rattle.wire.proofs.Built.{len-framed, body-framed, end-framed, sum-framed, whole-framed}
-use Rattle.wire.proofs.Checks.{passed, none, framed}
+use Rattle.judge.proofs.Checks.{passed, none, framed}
 use Rattle.verdict.proofs.Causes.{cause-protected, cause-none}
 use Rattle.command.proofs.Answers.{judged-bad, judged-well}
 use Rattle.standin.proofs.Whole.{feed-frame, joined-told}

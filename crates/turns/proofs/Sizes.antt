@@ -20,8 +20,8 @@ use Rattle.rules.specs.Frame.{statusByte}
 use Rattle.rules.specs.StandIn.{pageFault, pageWritten}
 use Rattle.rules.specs.Sheet.{count, verdict, stepAt, stepBlocks, stepPages}
 use Rattle.rules.specs.Run.{mostFor, mostFrames, mostFrom}
-use Rattle.flash.proofs.Geometry.{in-pages}
-use Rattle.flash.proofs.Parts.{inside, length-put}
+use Rattle.finder.proofs.Geometry.{in-pages}
+use Rattle.finder.proofs.Parts.{inside, length-put}
 use Rattle.sheet.proofs.Accepted.{Sound, sound}
 use Rattle.turns.specs.Turns.{Sized, Fit}
 

@@ -31,7 +31,7 @@ use Rattle.rules.specs.Sheet.{count, verdict, stepAt, stepBlocks, stepPages, bo
 use Rattle.rules.specs.Meaning.{eraseFrom, Done, done, eraseDone, stepMeaning}
 use Rattle.rules.specs.Player.{player, well, Absorbed, stopped, goesOn, finished, pagesSure, absorbed, Sent, counted, sends, emitted, reportOf, reportBy, command, pairCommand, blockCommand, lost, lostIn, awaits}
 use Rattle.rules.specs.Run.{clean, Joined, joining, carried, takenIn, turned, betweenIn, between, waits}
-use Rattle.flash.proofs.Geometry.{blocks-in-pages, in-pages}
+use Rattle.finder.proofs.Geometry.{blocks-in-pages, in-pages}
 use Rattle.sheet.proofs.Accepted.{Sound, Inside, sound, page-length}
 use Rattle.moves.proofs.Moves.{absorb-opened, absorb-sum, absorb-erase-stop, absorb-erase-on, absorb-erase-last, absorb-page-stop, absorb-page-on, absorb-page-last, emit-erase, emit-write, emit-verify, emit-sum, emit-page}
 use Rattle.moves.proofs.Replies.{command-one, data-well, sum-reply, sum-in}

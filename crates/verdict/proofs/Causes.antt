@@ -10,7 +10,7 @@ use Rattle.rules.specs.declared.Fault.the-variants.{Well, Parameter, Ident, Not
 use Rattle.rules.specs.Chip.{Memory}
 use Rattle.rules.specs.Frame.{first}
 use Rattle.rules.specs.Command.{frameChecks, commandChecks, commandFault, badParameter, idDiffers, notBlank, protected}
-use Rattle.wire.proofs.Checks.{applies, passed, none}
+use Rattle.judge.proofs.Checks.{applies, passed, none}
 use Rattle.verdict.proofs.Verdicts.{frame-well}
 
 module _ (chip : Chip) (phase : Phase) (o : Options) (m : Memory) (f : List ℕ) (well : first (frameChecks phase f) ≡ Well) where

@@ -13,7 +13,7 @@ ghost use Prim.Native.Nat.{ℕ, _<_};
 ghost use lib.Dec.{leb, eqb};
 ghost use Rattle.rules.specs.Chip.{addressAt, invalid, nowhere};
 ghost use Rattle.rules.specs.Command.{sadOf, eadOf, badParameter, idDiffers, notBlank, blockProtected, protected, commandFault};
-ghost use Rattle.flash.specs.Lent.{memory};
+ghost use Rattle.finder.specs.Lent.{memory};
 ghost use Rattle.wire.specs.Buffer.{frameIn};
 ghost use Rattle.device.specs.View.{LenFits};
 
@@ -98,10 +98,10 @@ fn bad_parameter(chip: Chip, frame: &[u8; 260]) -> bool
 {
     let code = frame[2];
     if has_pair(code) {
-        return no_range(flash::finder::range(chip, sad_of(frame), ead_of(frame)));
+        return no_range(finder::range(chip, sad_of(frame), ead_of(frame)));
     }
     if code == 0x22 {
-        return no_block(flash::finder::erase_address(chip, sad_of(frame)));
+        return no_block(finder::erase_address(chip, sad_of(frame)));
     }
     if code == 0x9A {
         return bad_speed(frame[3], frame[4]);
@@ -121,7 +121,7 @@ fn id_differs(frame: &[u8; 260], code: &[u8]) -> bool
     if code.len() < 0xCE {
         return true;
     }
-    !flash::bytes::same_bytes(&sent[3..13], &code[0xC4..0xCE])
+    !spans::same_bytes(&sent[3..13], &code[0xC4..0xCE])
 }
 
 // Row 7: Release with some byte of flash not FFh.
@@ -131,17 +131,17 @@ fn not_blank(frame: &[u8; 260], code: &[u8], data: &[u8]) -> bool
     if frame[2] != 0xA2 {
         return false;
     }
-    if !flash::bytes::is_blank(code) {
+    if !spans::is_blank(code) {
         return true;
     }
-    !flash::bytes::is_blank(data)
+    !spans::is_blank(data)
 }
 
 fn block_protected(o: Options, found: Found) -> bool
     ensures { λ r. ⌜ r ≡ blockProtected o found ⌝ }
 {
     match found {
-        Found::In(f, b) => options::erase_protected(o, f, b),
+        Found::In(f, b) => protect::erase_protected(o, f, b),
         Found::Nowhere => false,
     }
 }
@@ -153,7 +153,7 @@ fn protected(chip: Chip, o: Options, frame: &[u8; 260]) -> bool
 {
     let code = frame[2];
     if code == 0x22 {
-        return block_protected(o, flash::finder::erase_address(chip, sad_of(frame)));
+        return block_protected(o, finder::erase_address(chip, sad_of(frame)));
     }
     if code == 0xA2 {
         let sepr = options::sepr(o);
@@ -180,8 +180,8 @@ pub fn command_fault(
 ) -> Fault
     ensures { λ r. ⌜ r ≡ commandFault chip phase o (memory (now (code .entry)) (now («data» .entry))) (frameIn (now (frame .entry))) ⌝ }
 {
-    let v = wire::judge::judge_command(frame, phase);
-    if wire::judge::status_byte(v) != 0x06 {
+    let v = judge::judge_command(frame, phase);
+    if judge::status_byte(v) != 0x06 {
         return v;
     }
     if bad_parameter(chip, frame) {

@@ -1,6 +1,4 @@
-pub mod Rows
-pub mod Sum
-pub mod Frames
 pub mod Buffers
-pub mod Checks
 pub mod Built
+pub mod Frames
+pub mod Sum

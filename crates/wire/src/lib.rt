@@ -1,4 +1,2 @@
-// Section 5 of the guide: frames built, and frames judged.
+// Frames on the line: built in lent buffers.
 pub mod build;
-pub mod judge;
-pub mod table;

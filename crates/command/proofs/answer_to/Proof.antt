@@ -7,7 +7,7 @@ use denote.Ref.{now}
 use Rattle.rules.specs.declared.Options.{Options}
 use Rattle.rules.specs.Options.{IFPR}
 use Rattle.wire.specs.Buffer.{putBytes}
-use Rattle.flash.specs.Lent.{memory}
+use Rattle.finder.specs.Lent.{memory}
 use Rattle.wire.proofs.Buffers.{frame-bytes}
 use Rattle.command.proofs.Answers.{no-answer, told-as, answered-as}
 use Rattle.command.proofs.Results.{speed, security, silenced, flags, windowed, sum, acknowledged}
@@ -90,7 +90,7 @@ returns-4 c =
     let a = s .args in
     let m = memory (now (a .code)) (now (a .«data»)) in
     let law = flags (a .chip) (a .c) m (now (a .frame)) (s .pre .0) (c .before .before .before .before .before .before .before .if4 .taken) in
-    answered-as _ _ _ _ law (c .before .before .put-ack-and .ensures ∙ told-as _ _ _ (cc) (omega arith) (omega arith) (s .pre .1 .room))
+    answered-as _ _ _ _ law (c .before .before .put-ack-and .ensures ∙ told-as _ _ _ (rw (c .before .before .before .before .before .shown-sf2 .ensures, c .before .before .before .before .before .before .shown-sf1 .ensures)) (omega arith) (omega arith) (s .pre .1 .room))
 
 shown-sws-requires : tie.Need-shown-sws-requires
 shown-sws-requires c κs = search needs
@@ -125,7 +125,7 @@ returns-5 c =
     let a = s .args in
     let m = memory (now (a .code)) (now (a .«data»)) in
     let law = windowed (a .chip) (a .c) m (now (a .frame)) (s .pre .0) (c .before .before .before .before .before .before .before .if5 .taken) in
-    answered-as _ _ _ _ law (c .before .before .put-ack-and2 .ensures ∙ told-as _ _ _ (cc) (omega arith) (omega arith) (s .pre .1 .room))
+    answered-as _ _ _ _ law (c .before .before .put-ack-and2 .ensures ∙ told-as _ _ _ (rw (c .before .before .before .before .before .shown-swe .ensures, c .before .before .before .before .before .before .shown-sws .ensures)) (omega arith) (omega arith) (s .pre .1 .room))
 
 sad-of-requires : tie.Need-sad-of-requires
 sad-of-requires c κs = search needs
@@ -157,7 +157,7 @@ returns-6 c =
     let a = s .args in
     let m = memory (now (a .code)) (now (a .«data»)) in
     let law = sum (a .chip) (a .c) m (now (a .frame)) (s .pre .0) (c .before .before .before .before .before .before .before .before .if6 .taken) in
-    answered-as _ _ _ _ law (c .before .before .put-ack-and3 .ensures ∙ told-as _ _ _ (cc) (omega arith) (omega arith) (s .pre .1 .room))
+    answered-as _ _ _ _ law (c .before .before .put-ack-and3 .ensures ∙ told-as _ _ _ (rw (c .before .before .before .before .before .sum-over .ensures, c .before .before .before .before .before .before .ead-of .ensures, c .before .before .before .before .before .before .before .sad-of .ensures)) (omega arith) (omega arith) (s .pre .1 .room))
 
 put-one-requires-2 : tie.Need-put-one-requires-2
 put-one-requires-2 c κs = search needs

@@ -3,7 +3,7 @@ use mathlib.Core.Path.{_≡_, refl, sym, ap, _∙_}
 use denote.Ref.{now}
 use Rattle.rules.specs.declared.Address.{Address}
 use Rattle.rules.specs.Chip.{eraseAddress}
-use Rattle.flash.specs.Lent.{memory}
+use Rattle.finder.specs.Lent.{memory}
 use Rattle.command.proofs.Results.{erase-did, erase-not, unerased}
 use borrow.Author.Needs.{needs}
 use Rattle.command.proofs.flash_after.Statement.{statement}
@@ -38,13 +38,13 @@ returns c d =
     let s = c .before .before .before .before .before .before .before .before .before .before .before .before .before .before .before .before in
     let a = s .args in
     let m = memory (now (a .code)) (now (a .«data»)) in
-    erase-did (a .chip) d m (now (a .frame)) (s .pre .0) (cc) (s .pre .1 .0) (s .pre .1 .1) _ (c .before .before .before .before .before .before .before .before .before .before .erase-address .ensures ∙ ap (λ (x : Address). eraseAddress (a .chip) x) (c .before .before .before .before .before .before .before .before .before .before .before .sad-of .ensures)) _ _ (c .before .before .before .before .before .before .before .before .f .given .1) _ (c .before .before .before .before .erase-block .ensures)
+    erase-did (a .chip) d m (now (a .frame)) (s .pre .0) (c .before .before .before .before .before .before .before .before .before .before .before .before .if1 .taken) (s .pre .1 .0) (s .pre .1 .1) _ (c .before .before .before .before .before .before .before .before .before .before .erase-address .ensures ∙ ap (λ (x : Address). eraseAddress (a .chip) x) (c .before .before .before .before .before .before .before .before .before .before .before .sad-of .ensures)) _ _ (c .before .before .before .before .before .before .before .before .f .given .1) _ (c .before .before .before .before .erase-block .ensures)
 
 returns-2 : tie.Need-returns-2
 returns-2 c d =
     let s = c .before .before .before .before .before .before .before .before in
     let a = s .args in
-    erase-not (a .chip) d (memory (now (a .code)) (now (a .«data»))) (now (a .frame)) (s .pre .0) (cc) _ (c .before .before .erase-address .ensures ∙ ap (λ (x : Address). eraseAddress (a .chip) x) (c .before .before .before .sad-of .ensures)) (c .enum-told .given .1)
+    erase-not (a .chip) d (memory (now (a .code)) (now (a .«data»))) (now (a .frame)) (s .pre .0) (c .before .before .before .before .if1 .taken) _ (c .before .before .erase-address .ensures ∙ ap (λ (x : Address). eraseAddress (a .chip) x) (c .before .before .before .sad-of .ensures)) (c .enum-told .given .1)
 
 returns-3 : tie.Need-returns-3
 returns-3 c d =

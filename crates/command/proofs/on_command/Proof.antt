@@ -8,7 +8,7 @@ use Rattle.rules.specs.Chip.{Memory}
 use Rattle.rules.specs.Frame.{one, statusByte}
 use Rattle.rules.specs.Command.{codeOf}
 use Rattle.rules.specs.StandIn.{Out, answered, refused, rest}
-use Rattle.flash.specs.Lent.{memory}
+use Rattle.finder.specs.Lent.{memory}
 use Rattle.wire.specs.Buffer.{frameIn, putBytes}
 use Rattle.device.specs.declared.Core.{Core}
 use Rattle.device.specs.View.{idle, effected, LenFits}

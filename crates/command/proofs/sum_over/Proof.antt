@@ -1,7 +1,7 @@
 -- `sum_over` meets its contract. Assumes nothing.
 use mathlib.Core.Path.{_≡_, refl, sym, ap, _∙_}
 use denote.Ref.{now}
-use Rattle.flash.specs.Lent.{memory}
+use Rattle.finder.specs.Lent.{memory}
 use Rattle.command.proofs.Results.{summed-did, summed-not}
 use borrow.Author.Needs.{needs}
 use Rattle.command.proofs.sum_over.Statement.{statement}

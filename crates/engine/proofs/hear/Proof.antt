@@ -11,7 +11,7 @@ use Rattle.rules.specs.declared.Call.the-variants.{Answer}
 use Rattle.rules.specs.declared.Flash.the-variants.{Code, Data}
 use Rattle.rules.specs.Chip.{fits}
 use Rattle.rules.specs.StandIn.{Out, answered, step, byteCall, rest, received, afterMode}
-use Rattle.flash.specs.Lent.{memory}
+use Rattle.finder.specs.Lent.{memory}
 use Rattle.device.specs.View.{Fits}
 use Rattle.engine.specs.View.{view, came}
 use Rattle.engine.proofs.Receives.{no-code, no-data, no-room, taken, unanswered, silent-step, mode-step, frame-step, takes-frames, takes-none}

@@ -9,7 +9,7 @@ use denote.Ref.{now}
 use Rattle.rules.specs.declared.Call.the-variants.{Answer}
 use Rattle.rules.specs.Frame.{frameSize, lenOf}
 use Rattle.rules.specs.StandIn.{Out, answered, receive, received}
-use Rattle.flash.specs.Lent.{memory}
+use Rattle.finder.specs.Lent.{memory}
 use Rattle.wire.proofs.Frames.{frame-size, body-least}
 use Rattle.engine.specs.View.{view, came, heldOf}
 use Rattle.engine.proofs.Receives.{held-small, held-more, held-is, held-as, none-got, completed, continued, still-short}

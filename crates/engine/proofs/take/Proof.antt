@@ -2,7 +2,7 @@
 use mathlib.Core.Path.{_≡_, sym, ap, _∙_}
 use denote.Ref.{now}
 use Rattle.rules.specs.StandIn.{byteCall}
-use Rattle.flash.specs.Lent.{memory}
+use Rattle.finder.specs.Lent.{memory}
 use Rattle.engine.specs.View.{view, came}
 use Rattle.engine.specs.Change.{changed, told}
 use Rattle.engine.specs.declared.Change.{Change}

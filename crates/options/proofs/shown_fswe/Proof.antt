@@ -15,7 +15,7 @@ shown-end-requires c κs = search needs
 
 returns : tie.Need-returns
 unfolding shownFSWE
-returns c = cc
+returns c = rw (c .shown-end .ensures, c .before .last-code-block .ensures, c .before .before .fswe .ensures)
 
 pub shown-fswe-spec : {M : Type 1} → statement M
 shown-fswe-spec =

@@ -12,7 +12,7 @@ shown-end-requires c κs = search needs
 
 returns : tie.Need-returns
 unfolding shownFSWS
-returns c = cc
+returns c = rw (c .shown-end .ensures, c .before .fsws .ensures)
 
 pub shown-fsws-spec : {M : Type 1} → statement M
 shown-fsws-spec = tie.close (tie.spec fsws-requires shown-end-requires returns)

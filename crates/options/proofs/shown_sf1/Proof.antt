@@ -33,7 +33,7 @@ add-result-3 c = search needs
 
 returns : tie.Need-returns
 unfolding shownSF1
-returns c = cc
+returns c = rw (c .wrpr .ensures, c .before .sepr .ensures, c .before .before .btpr .ensures)
 
 pub shown-sf1-spec : {M : Type 1} → statement M
 shown-sf1-spec =

@@ -36,7 +36,7 @@ add-result-3 c = search needs
 
 returns : tie.Need-returns
 unfolding shownSF2
-returns c = cc
+returns c = rw (c .cmpr .ensures, c .before .swpr .ensures, c .before .before .ifpr .ensures, c .before .before .before .iden .ensures)
 
 pub shown-sf2-spec : {M : Type 1} → statement M
 shown-sf2-spec =

@@ -15,7 +15,7 @@ shown-word-requires c κs = search needs
 
 returns : tie.Need-returns
 unfolding shownSWE
-returns c = cc
+returns c = rw (c .shown-word .ensures, c .before .fswc .ensures, c .before .before .shown-fswe .ensures)
 
 pub shown-swe-spec : {M : Type 1} → statement M
 shown-swe-spec = tie.close (tie.spec shown-fswe-requires fswc-requires shown-word-requires returns)

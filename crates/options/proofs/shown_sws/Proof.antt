@@ -15,7 +15,7 @@ shown-word-requires c κs = search needs
 
 returns : tie.Need-returns
 unfolding shownSWS
-returns c = cc
+returns c = rw (c .shown-word .ensures, c .before .fspr .ensures, c .before .before .shown-fsws .ensures)
 
 pub shown-sws-spec : {M : Type 1} → statement M
 shown-sws-spec = tie.close (tie.spec shown-fsws-requires fspr-requires shown-word-requires returns)

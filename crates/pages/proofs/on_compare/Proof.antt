@@ -4,7 +4,7 @@ use native.Mathlib.Omega.{arith}
 use Rattle.rules.specs.declared.Task.the-variants.{Verifying}
 use Rattle.rules.specs.Frame.{statusByte, dataFault}
 use Rattle.rules.specs.StandIn.{lastPage, onCompare}
-use Rattle.flash.specs.Lent.{memory}
+use Rattle.finder.specs.Lent.{memory}
 use Rattle.wire.specs.Buffer.{frameIn}
 use Rattle.device.specs.View.{idle}
 use Rattle.pages.proofs.DataFrames.{answers, countable, told, told-last, told-more, compare-refused, compare-done}

@@ -40,7 +40,7 @@ add-t20 : tie.Need-add-t20
 add-t20 c = search needs
 
 returns : tie.Need-returns
-returns c = cc
+returns c = rw (c .wide3 .ensures .0, c .before .before .wide2 .ensures .0, c .before .before .before .before .wide .ensures .0)
 
 pub address-at-spec : {M : Type 1} → statement M
 address-at-spec =

@@ -33,7 +33,7 @@ returns c =
     let s = c .before .before .before .before .before .before .before in
     let pair = sym (c .before .before .before .before .before .has-pair .ensures) ∙ c .before .before .before .before .if1 .taken in
     let fields = pair-of (s .args .frame .now) (s .pre) pair in
-    rw (code-in, pair, fields .0, fields .1) (cc)
+    rw (code-in, pair, fields .0, fields .1, c .no-range .ensures, c .before .range .ensures, c .before .before .ead-of .ensures, c .before .before .before .sad-of .ensures)
 
 sad-of-requires-2 : tie.Need-sad-of-requires-2
 sad-of-requires-2 c κs = search needs
@@ -50,7 +50,7 @@ returns-2 c =
     let s = c .before .before .before .before .before .before .before in
     let erase = c .before .before .before .if2 .taken in
     let pair = sym (c .before .before .before .before .before .has-pair .ensures) ∙ c .before .before .before .before .if1 .left in
-    rw (code-in, pair, eq-eqb _ _ erase, erase-of (s .args .frame .now) (s .pre) erase) (cc)
+    rw (code-in, pair, eq-eqb _ _ erase, erase-of (s .args .frame .now) (s .pre) erase, c .no-block .ensures, c .before .erase-address .ensures, c .before .before .sad-of2 .ensures)
 
 element-copy-out-bad-speed : tie.Need-element-copy-out-bad-speed
 element-copy-out-bad-speed c = search needs
@@ -69,7 +69,7 @@ returns-3 c =
     let speed = c .before .before .before .if3 .taken in
     let len = len-due b (s .pre) 0x9A 3 speed refl in
     let pair = sym (c .before .before .before .before .before .before .has-pair .ensures) ∙ c .before .before .before .before .before .if1 .left in
-    rw (code-in, pair, ne-eqb _ _ (c .before .before .before .before .if2 .left), eq-eqb _ _ speed, byte-of b 3 len (omega arith) 3 (omega arith), byte-of b 3 len (omega arith) 4 (omega arith)) (cc)
+    rw (code-in, pair, ne-eqb _ _ (c .before .before .before .before .if2 .left), eq-eqb _ _ speed, byte-of b 3 len (omega arith) 3 (omega arith), byte-of b 3 len (omega arith) 4 (omega arith), c .bad-speed .ensures)
 
 returns-4 : tie.Need-returns-4
 unfolding badParameter

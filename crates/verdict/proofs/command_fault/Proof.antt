@@ -4,7 +4,7 @@ use mathlib.Core.Bool.{false}
 use Rattle.rules.specs.declared.Fault.the-variants.{Well}
 use Rattle.rules.specs.Frame.{statusByte, first}
 use Rattle.rules.specs.Command.{frameChecks, badParameter, idDiffers, notBlank}
-use Rattle.flash.specs.Lent.{memory}
+use Rattle.finder.specs.Lent.{memory}
 use Rattle.wire.specs.Buffer.{frameIn}
 use Rattle.wire.proofs.Frames.{len-in, code-in}
 use Rattle.device.specs.View.{LenFits}

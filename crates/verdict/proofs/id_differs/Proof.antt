@@ -8,7 +8,7 @@ use lib.ListN.{length, take, drop, length-take, length-drop}
 use borrow.Author.Tests.{eq-eqb, ne-eqb}
 use Rattle.rules.specs.Chip.{Memory, same, identOf}
 use Rattle.rules.specs.Command.{rows, lookup, codeOf, idDiffers}
-use Rattle.flash.proofs.Lists.{same-lengths}
+use Rattle.spans.proofs.Lists.{same-lengths}
 use Rattle.wire.specs.Buffer.{frameIn}
 use Rattle.wire.proofs.Frames.{code-in}
 use Rattle.device.specs.View.{LenFits}

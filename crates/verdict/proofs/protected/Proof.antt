@@ -24,7 +24,7 @@ unfolding protected
 returns c =
     let s = c .before .before .before .before .before in
     let erase = c .before .before .before .if1 .taken in
-    rw (code-in, eq-eqb _ _ erase, erase-of (s .args .frame .now) (s .pre) erase) (cc)
+    rw (code-in, eq-eqb _ _ erase, erase-of (s .args .frame .now) (s .pre) erase, c .block-protected .ensures, c .before .erase-address .ensures, c .before .before .sad-of .ensures)
 
 sepr-requires : tie.Need-sepr-requires
 sepr-requires c κs = search needs

@@ -9,7 +9,8 @@ use Rattle.rules.specs.Run.{Joined}
 use Rattle.turns.specs.Turns.{Sized}
 use Rattle.turns.proofs.Run.{small-sized}
 use Rattle.bench.specs.declared.Answer.the-variants.{Played}
-use Rattle.line.specs.Rigs.{rigged, joinedVerdict}
+use Rattle.line.specs.Rigs.{rigged}
+use Rattle.checks.specs.Checks.{joinedVerdict}
 use Rattle.bench.specs.Plays.{lengths, outcome, sheetPlayed}
 use Rattle.bench.proofs.Calls.{sheet-refused, sheet-busy, sheet-played, opens}
 use borrow.Author.Needs.{needs}

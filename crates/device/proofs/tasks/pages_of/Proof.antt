@@ -1,7 +1,7 @@
 -- `command::tasks::pages_of` meets its contract: the pages can be counted. Assumes nothing.
 use native.Mathlib.Omega.{arith}
 use Rattle.rules.specs.StandIn.{pagesOf}
-use Rattle.flash.proofs.Geometry.{few-pages}
+use Rattle.finder.proofs.Geometry.{few-pages}
 use borrow.Author.Needs.{needs}
 use Rattle.device.proofs.tasks.pages_of.Statement.{statement}
 use Rattle.device.proofs.tasks.pages_of.Tie as tie

@@ -2,7 +2,7 @@
 use mathlib.Core.Path.{_≡_, refl, sym, ap, _∙_}
 use denote.Ref.{now}
 use Rattle.rules.specs.StandIn.{Out, answered}
-use Rattle.flash.specs.Lent.{memory}
+use Rattle.finder.specs.Lent.{memory}
 use Rattle.wire.specs.Buffer.{frameIn}
 use Rattle.device.specs.View.{idle}
 use Rattle.engine.proofs.Begun.{begun-ahead, as-command, as-page, as-compare}

@@ -1,7 +1,8 @@
 -- `flash::erase::erase_in` meets its contract: one law for each outcome. Assumes nothing.
 use mathlib.Core.Path.{sym, _∙_}
 use lib.ListN.{length}
-use Rattle.flash.proofs.Places.{Placed, placed}
+use Rattle.rules.specs.Chip.{blockSize, blocks}
+use Rattle.finder.proofs.Places.{Placed, placed}
 use Rattle.flash.proofs.Writes.{erased-there, erased-missing}
 use borrow.Author.Needs.{needs}
 use Rattle.flash.proofs.erase.erase_in.Statement.{statement}
@@ -9,11 +10,11 @@ use Rattle.flash.proofs.erase.erase_in.Tie as tie
 
 -- the place that was found
 at-place : (c : tie.After-at) → let a = c .before .before .before .before .args in
-    Placed (length (a .flash .now)) (a .size) (a .count) (a .n) (a .n) (c .at .given .0 .0) (c .at .given .0 .1 .0)
-at-place c = placed _ _ _ _ _ (sym (c .before .before .place-of .ensures) ∙ c .at .given .1)
+    Placed (length (a .flash .now)) (blockSize (a .f)) (blocks (a .chip) (a .f)) (a .b .0) (a .b .0) (c .at .given .0 .0) (c .at .given .0 .1 .0)
+at-place c = placed _ _ _ _ _ (sym (c .before .before .block-place .ensures) ∙ c .at .given .1)
 
-place-of-requires : tie.Need-place-of-requires
-place-of-requires c κs = search needs
+block-place-requires : tie.Need-block-place-requires
+block-place-requires c κs = search needs
 
 enum-known-at : tie.Need-enum-known-at
 enum-known-at c = search needs
@@ -22,7 +23,7 @@ enum-told : tie.Need-enum-told
 enum-told c = search needs
 
 returns : tie.Need-returns
-returns c = erased-missing _ _ _ _ (sym (c .before .before .place-of .ensures) ∙ c .enum-told .given .1)
+returns c = erased-missing _ _ _ _ (sym (c .before .before .block-place .ensures) ∙ c .enum-told .given .1)
 
 sub-fill : tie.Need-sub-fill
 sub-fill c = at-place (c .before) .forward
@@ -46,7 +47,7 @@ pub erase-in-spec : {M : Type 1} → statement M
 erase-in-spec =
     tie.close
     (tie.spec
-    place-of-requires
+    block-place-requires
     enum-known-at
     enum-told
     returns

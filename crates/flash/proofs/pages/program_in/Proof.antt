@@ -2,8 +2,8 @@
 use mathlib.Core.Path.{sym, ap, _∙_}
 use lib.ListN.{length}
 use denote.Ref.{name, now}
-use Rattle.rules.specs.Chip.{pageSize}
-use Rattle.flash.proofs.Places.{Placed, placed, cut-length}
+use Rattle.rules.specs.Chip.{pageSize, pages}
+use Rattle.finder.proofs.Places.{Placed, placed, cut-length}
 use Rattle.flash.proofs.Writes.{program-missing, program-left, program-done}
 use borrow.Author.Needs.{needs}
 use Rattle.flash.proofs.pages.program_in.Statement.{statement}
@@ -11,11 +11,11 @@ use Rattle.flash.proofs.pages.program_in.Tie as tie
 
 -- the place that was found
 at-place : (c : tie.After-at) → let a = c .before .before .before .before .args in
-    Placed (length (a .flash .now)) pageSize (a .count) (a .k) (a .k) (c .at .given .0 .0) (c .at .given .0 .1 .0)
-at-place c = placed _ _ _ _ _ (sym (c .before .before .place-of .ensures) ∙ c .at .given .1)
+    Placed (length (a .flash .now)) pageSize (pages (a .chip) (a .f)) (a .k) (a .k) (c .at .given .0 .0) (c .at .given .0 .1 .0)
+at-place c = placed _ _ _ _ _ (sym (c .before .before .page-place .ensures) ∙ c .at .given .1)
 
-place-of-requires : tie.Need-place-of-requires
-place-of-requires c κs = search needs
+page-place-requires : tie.Need-page-place-requires
+page-place-requires c κs = search needs
 
 enum-known-at : tie.Need-enum-known-at
 enum-known-at c = search needs
@@ -24,7 +24,7 @@ enum-told : tie.Need-enum-told
 enum-told c = search needs
 
 returns : tie.Need-returns
-returns c = program-missing _ _ _ _ _ (sym (c .before .before .place-of .ensures) ∙ c .enum-told .given .1)
+returns c = program-missing _ _ _ _ _ (sym (c .before .before .page-place .ensures) ∙ c .enum-told .given .1)
 
 sub-page-status : tie.Need-sub-page-status
 sub-page-status c = at-place (c .before) .forward
@@ -82,7 +82,7 @@ pub program-in-spec : {M : Type 1} → statement M
 program-in-spec =
     tie.close
     (tie.spec
-    place-of-requires
+    page-place-requires
     enum-known-at
     enum-told
     returns

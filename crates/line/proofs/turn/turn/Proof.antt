@@ -5,7 +5,7 @@ use Prim.Native.Nat.{ℕ}
 use lib.ListN.{length, take}
 use Rattle.rules.specs.Player.{absorbs}
 use Rattle.standin.specs.Feeding.{feeding, fedInto}
-use Rattle.player.specs.Parts.{takesIn}
+use Rattle.taking.specs.Taking.{takesIn}
 use Rattle.line.proofs.Turning.{turn-made}
 use borrow.Author.Needs.{needs}
 use Rattle.line.proofs.turn.turn.Statement.{statement}

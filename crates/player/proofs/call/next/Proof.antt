@@ -34,41 +34,25 @@ stands-requires-2 c κs = search needs
 judged : (c : tie.After-enum-told) → let a = c .before .before .before .before .before .before .before .args in verdict (a .chip) (a .sheet .now) (length (a .sums .now)) ≡ Accepted
 judged c = sym (c .before .before .verdict .ensures) ∙ c .enum-told .given .1
 
--- whether the player is in the sheet
-told : (c : tie.After-is-lost) → let a = c .before .before .before .before .before .before .before .before .before .before .before .args in c .is-lost .result ≡ lost (a .chip) (a .sheet .now) (a .p)
-unfolding lost
-told c = rw (c .is-lost .ensures, c .before .count .ensures .0, c .before .before .step-at .ensures)
-
 returns-2 : tie.Need-returns-2
 returns-2 c =
     let x = c .before .before in
     let a = x .before .before .before .before .before .before .before .args in
     rw (c .stands2 .ensures) (sym (refused-P1 (a .chip) (a .sheet .now) (a .p) (a .reply .now) (a .frame .now) (a .sums .now) (judged x) (c .before .if1 .taken)))
 
-step-at-requires : tie.Need-step-at-requires
-step-at-requires c κs = search needs
-
-count-requires : tie.Need-count-requires
-count-requires c κs = search needs
-
-is-lost-requires : tie.Need-is-lost-requires
-is-lost-requires c κs = search needs
+take-in-requires : tie.Need-take-in-requires
+take-in-requires c κs = search needs
 
 stands-requires-3 : tie.Need-stands-requires-3
 stands-requires-3 c κs = search needs
 
 returns-3 : tie.Need-returns-3
 returns-3 c =
-    let l = c .before .before in
-    let e = l .before .before .before in
+    let k = c .before .before .before .before in
+    let e = k .before .before in
     let x = e .before in
     let a = x .before .before .before .before .before .before .before .args in
-    rw (c .stands3 .ensures) (sym (refused-P2 (a .chip) (a .sheet .now) (a .p) (a .reply .now) (a .frame .now) (a .sums .now) (judged x) (e .if1 .left) (sym (told l) ∙ c .before .if2 .taken)))
-
-absorb-in-requires : tie.Need-absorb-in-requires
-absorb-in-requires c κs =
-    let l = c .before .before in
-    (sym (l .before .before .step-at .ensures), sym (told l) ∙ c .before .if2 .left)
+    rw (c .stands3 .ensures) (sym (refused-P2 (a .chip) (a .sheet .now) (a .p) (a .reply .now) (a .frame .now) (a .sums .now) (judged x) (e .if1 .left) (sym (k .take-in .ensures .0) ∙ c .before .if2 .taken) _ _ (k .take-in .ensures .1)))
 
 emit-requires : tie.Need-emit-requires
 emit-requires c κs = search needs
@@ -85,18 +69,20 @@ same-length c = search needs
 same-length-2 : tie.Need-same-length-2
 same-length-2 c = search needs
 
+same-length-3 : tie.Need-same-length-3
+same-length-3 c = search needs
+
 returns-4 : tie.Need-returns-4
 returns-4 c =
     let n = c .before in
     let g = n .before .before .before .before in
-    let t = g .before .before .before .before in
-    let i = t .before .before in
-    let l = i .before in
-    let e = l .before .before .before in
+    let i = g .before .before in
+    let k = i .before .before .before in
+    let e = k .before .before in
     let x = e .before in
     let a = x .before .before .before .before .before .before .before .args in
-    call-parts (a .chip) (a .sheet .now) (a .p) (a .reply .now) (a .frame .now) (a .sums .now) (judged x) (e .if1 .left) (sym (told l) ∙ i .if2 .left)
-    _ _ (t .absorb-in .ensures) _ _ _ (g .emit .ensures) _ (n .next-of .ensures) _ (c .report .ensures)
+    call-parts (a .chip) (a .sheet .now) (a .p) (a .reply .now) (a .frame .now) (a .sums .now) (judged x) (e .if1 .left) (sym (k .take-in .ensures .0) ∙ i .if2 .left)
+    _ _ (k .take-in .ensures .1) _ _ _ (g .emit .ensures) _ (n .next-of .ensures) _ (c .report .ensures)
 
 pub next-spec : {M : Type 1} → statement M
 next-spec =
@@ -109,15 +95,13 @@ next-spec =
     enum-told
     stands-requires-2
     returns-2
-    step-at-requires
-    count-requires
-    is-lost-requires
+    take-in-requires
     stands-requires-3
+    same-length
     returns-3
-    absorb-in-requires
     emit-requires
     next-of-requires
     report-requires
-    same-length
     same-length-2
+    same-length-3
     returns-4)

@@ -5,7 +5,7 @@ use native.Mathlib.Omega.{arith}
 use borrow.Author.Needs.{needs}
 use Rattle.rules.specs.Sheet.{bodyEnd, offsetDue, entriesVerdict}
 use Rattle.sheet.proofs.Entries.{none-left, one-refused, one-accepted}
-use Rattle.sheet.proofs.Fields.{says, due-first, due-later}
+use Rattle.entries.proofs.Fields.{says, due-first, due-later}
 use Rattle.sheet.proofs.judge.entries_verdict.Statement.{statement}
 use Rattle.sheet.proofs.judge.entries_verdict.Tie as tie
 

@@ -1,7 +1,7 @@
 -- `sheet::read::pages_of` meets its contract: a block has at most eight pages. Assumes nothing.
 use Prim.Native.Nat.{_*_, _≤_}
 use native.Mathlib.Omega.{arith}
-use Rattle.flash.proofs.Geometry.{few-pages}
+use Rattle.finder.proofs.Geometry.{few-pages}
 use borrow.Author.Needs.{needs}
 use Rattle.sheet.proofs.read.pages_of.Statement.{statement}
 use Rattle.sheet.proofs.read.pages_of.Tie as tie
@@ -19,7 +19,7 @@ mul-result : tie.Need-mul-result
 mul-result c = omega (arith, few c)
 
 returns : tie.Need-returns
-returns c = (cc, few c)
+returns c = (rw (c .pages-per-block .ensures, c .before .blocks-of .ensures .0), few c)
 
 pub pages-of-spec : {M : Type 1} → statement M
 pages-of-spec = tie.close (tie.spec blocks-of-requires pages-per-block-requires mul-result returns)

@@ -6,7 +6,7 @@ use Rattle.rules.specs.declared.Phase.{Phase}
 use Rattle.rules.specs.declared.Task.the-variants.{Idle}
 use Rattle.rules.specs.declared.Call.the-variants.{Answer}
 use Rattle.rules.specs.StandIn.{Powered, rest, received}
-use Rattle.flash.specs.Lent.{memory}
+use Rattle.finder.specs.Lent.{memory}
 use Rattle.standin.proofs.Powers.{power-no-code, power-no-data, power-well}
 use borrow.Author.Needs.{needs}
 use Rattle.standin.proofs.call.power_on.Statement.{statement}

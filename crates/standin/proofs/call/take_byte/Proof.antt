@@ -3,7 +3,7 @@ use mathlib.Core.Path.{_≡_, refl, sym, ap, _∙_}
 use denote.Ref.{now}
 use Rattle.rules.specs.declared.Chip.{Chip}
 use Rattle.rules.specs.StandIn.{byteCall}
-use Rattle.flash.specs.Lent.{memory}
+use Rattle.finder.specs.Lent.{memory}
 use Rattle.standin.specs.Shows.{shows}
 use borrow.Author.Needs.{needs}
 use Rattle.standin.proofs.call.take_byte.Statement.{statement}

@@ -9,7 +9,7 @@ use borrow.Author.Needs.{needs}
 use borrow.Rule.Slice.PartMut.{putMid}
 use Rattle.rules.specs.declared.Call.the-variants.{Refused, Answer}
 use Rattle.rules.specs.StandIn.{byteCall}
-use Rattle.flash.specs.Lent.{memory}
+use Rattle.finder.specs.Lent.{memory}
 use Rattle.wire.proofs.Buffers.{rest-of, put-rest}
 use Rattle.engine.specs.View.{view, came}
 use Rattle.engine.specs.Change.{changed, told}

@@ -3,7 +3,7 @@ use mathlib.Core.Path.{_≡_, sym, ap, _∙_}
 use mathlib.Core.List.{List}
 use Prim.Native.Nat.{ℕ}
 use denote.Ref.{now}
-use Rattle.flash.specs.Lent.{memory}
+use Rattle.finder.specs.Lent.{memory}
 use Rattle.engine.specs.View.{view}
 use Rattle.standin.specs.Feeding.{fedInto}
 use Rattle.standin.proofs.Opens.{with-ident, without-ident}

@@ -1,0 +1,5 @@
+pub mod Geometry
+pub mod Parts
+pub mod Places
+pub mod Spots
+pub mod ThereAndBack

@@ -1,0 +1,18 @@
+-- `finder::page_place` meets its contract: the numbers are those of the flash. Assumes nothing.
+use native.Mathlib.Omega.{arith}
+use Rattle.finder.proofs.Geometry.{pages-bound}
+use borrow.Author.Needs.{needs}
+use Rattle.finder.proofs.page_place.Statement.{statement}
+use Rattle.finder.proofs.page_place.Tie as tie
+
+pages-of-requires : tie.Need-pages-of-requires
+pages-of-requires c κs = search needs
+
+place-of-requires : tie.Need-place-of-requires
+place-of-requires c κs = let s = c .before .args in (omega arith, omega (arith, pages-bound (s .chip) (s .f) (omega arith) (omega arith)))
+
+returns : tie.Need-returns
+returns c = rw (c .place-of .ensures, c .before .pages-of .ensures)
+
+pub page-place-spec : {M : Type 1} → statement M
+page-place-spec = tie.close (tie.spec pages-of-requires place-of-requires returns)

@@ -1,0 +1,62 @@
+-- `finder::parts_of` meets its contract: what is cut out at the place of the parts. Assumes nothing.
+use mathlib.Core.Path.{sym, _∙_}
+use lib.ListN.{length}
+use Rattle.finder.proofs.Places.{Placed, placed, parts-cut, parts-none}
+use borrow.Author.Needs.{needs}
+use Rattle.finder.proofs.parts_of.Statement.{statement}
+use Rattle.finder.proofs.parts_of.Tie as tie
+
+-- the place that was found
+at-place : (c : tie.After-at) → let a = c .before .before .before .before .args in
+    Placed (length (a .flash .now)) (a .size) (a .count) (a .first) (a .last) (c .at .given .0 .0) (c .at .given .0 .1 .0)
+at-place c = placed _ _ _ _ _ (sym (c .before .before .place-of .ensures) ∙ c .at .given .1)
+
+place-of-requires : tie.Need-place-of-requires
+place-of-requires c κs = search needs
+
+enum-known-at : tie.Need-enum-known-at
+enum-known-at c = search needs
+
+sub-result : tie.Need-sub-result
+sub-result c = at-place (c .before) .forward
+
+part-result-start : tie.Need-part-result-start
+part-result-start c = at-place (c .before) .forward
+
+part-result-end : tie.Need-part-result-end
+part-result-end c = at-place (c .before) .room
+
+enum-told : tie.Need-enum-told
+enum-told c = search needs
+
+sub-result-2 : tie.Need-sub-result-2
+sub-result-2 c = search needs
+
+part-result-start-2 : tie.Need-part-result-start-2
+part-result-start-2 c = search needs
+
+part-result-end-2 : tie.Need-part-result-end-2
+part-result-end-2 c = search needs
+
+returns : tie.Need-returns
+returns c = parts-cut _ _ _ (at-place (c .before .before))
+
+returns-2 : tie.Need-returns-2
+returns-2 c =
+    sym (parts-none _ _ _ _ _ (sym (c .before .before .before .place-of .ensures) ∙ c .before .enum-told .given .1))
+
+pub parts-of-spec : {M : Type 1} → statement M
+parts-of-spec =
+    tie.close
+    (tie.spec
+    place-of-requires
+    enum-known-at
+    sub-result
+    part-result-start
+    part-result-end
+    enum-told
+    sub-result-2
+    part-result-start-2
+    part-result-end-2
+    returns
+    returns-2)

@@ -1,7 +1,7 @@
 // The driver: calls the proved side and the plain side with the same input, compares all that they answer and leave, and measures.
 //
 //     driver compare     random sessions and sheets through both sides; fails on the first difference
-//     driver time        best of 20 by the clock, the sides in turn; prints the table (x86-64)
+//     driver time        best of 20 or more by the clock, a tenth of a second a row, the sides in turn; prints the table (x86-64)
 //     driver marks       each measured call once, between two calls of getppid, for a count of instructions
 //     driver table       reads the counts between the marks from standard input, and prints the table
 //     driver stack       how deep the stack goes below the driver in each entry, in bytes
@@ -451,12 +451,13 @@ static long now(void)
 
 static void by_time(void)
 {
-    heading("nanoseconds, best of 20");
+    heading("nanoseconds, best of 20 or more");
     for (int i = 0; i < ROWS; i++) {
         long best[2] = {-1, -1};
         struct run r = prepare(rows + i);
         both(rows[i].name, rows[i].kind, r);
-        for (int k = 0; k < 20; k++)
+        long began = now();
+        for (int k = 0; k < 20 || now() - began < 100000000; k++)
             for (int proved = 0; proved < 2; proved++) {
                 memcpy(&ours, &before, sizeof before);
                 choose(rows[i].kind, proved);

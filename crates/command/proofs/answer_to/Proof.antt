@@ -1,4 +1,4 @@
--- `answer_to` meets its contract. Assumes nothing.
+-- `command::answer_to` meets its contract. Assumes nothing.
 use mathlib.Core.Path.{_≡_, refl, sym, ap, _∙_}
 use Prim.Native.Nat.{ℕ}
 use mathlib.Core.List.{List}

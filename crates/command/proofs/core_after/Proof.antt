@@ -1,4 +1,4 @@
--- `core_after` meets its contract. Assumes nothing.
+-- `command::core_after` meets its contract. Assumes nothing.
 use denote.Ref.{now}
 use Prim.Native.Nat.{ℕ}
 use mathlib.Core.Path.{_≡_, refl, sym, ap, _∙_}

@@ -1,4 +1,4 @@
--- `flash_after` meets its contract. Assumes nothing.
+-- `command::flash_after` meets its contract. Assumes nothing.
 use mathlib.Core.Path.{_≡_, refl, sym, ap, _∙_}
 use denote.Ref.{now}
 use Rattle.rules.specs.declared.Address.{Address}

@@ -1,4 +1,4 @@
--- `on_command` meets its contract. Assumes nothing.
+-- `command::on_command` meets its contract. Assumes nothing.
 use Prim.Native.Nat.{ℕ}
 use mathlib.Core.Path.{_≡_, refl, sym, ap, _∙_}
 use denote.Ref.{now}

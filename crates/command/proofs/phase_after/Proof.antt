@@ -1,4 +1,4 @@
--- `phase_after` meets its contract. Assumes nothing.
+-- `command::phase_after` meets its contract. Assumes nothing.
 use mathlib.Core.Path.{_≡_, sym, ap, _∙_}
 use mathlib.Core.Bool.{Bool, cond}
 use Rattle.rules.specs.declared.Phase.{Phase}

@@ -1,4 +1,4 @@
--- `silences` meets its contract. Assumes nothing.
+-- `command::silences` meets its contract. Assumes nothing.
 use borrow.Author.Needs.{needs}
 use Rattle.command.proofs.silences.Statement.{statement}
 use Rattle.command.proofs.silences.Tie as tie

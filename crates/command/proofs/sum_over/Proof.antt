@@ -1,4 +1,4 @@
--- `sum_over` meets its contract. Assumes nothing.
+-- `command::sum_over` meets its contract. Assumes nothing.
 use mathlib.Core.Path.{_≡_, refl, sym, ap, _∙_}
 use denote.Ref.{now}
 use Rattle.finder.specs.Lent.{memory}

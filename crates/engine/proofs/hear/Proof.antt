@@ -1,4 +1,4 @@
--- `hear` meets its contract. Assumes nothing.
+-- `engine::hear` meets its contract. Assumes nothing.
 use mathlib.Core.Path.{_≡_, refl, sym, ap, _∙_}
 use mathlib.Core.Bool.{true}
 use native.Mathlib.Omega.{arith}

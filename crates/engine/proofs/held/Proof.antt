@@ -1,4 +1,4 @@
--- `held` meets its contract. Assumes nothing.
+-- `engine::held` meets its contract. Assumes nothing.
 use Prim.Native.Nat.{ℕ}
 use mathlib.Core.Path.{_≡_, refl, sym, ap, _∙_}
 use mathlib.Core.List.{List, [], _∷_}

@@ -1,4 +1,4 @@
--- `in_hand` meets its contract. Assumes nothing.
+-- `engine::in_hand` meets its contract. Assumes nothing.
 use mathlib.Core.Path.{_≡_}
 use Prim.Native.Nat.{_<_, _≤_}
 use native.Mathlib.Omega.{arith}

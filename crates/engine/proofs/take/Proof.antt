@@ -1,4 +1,4 @@
--- `take` meets its contract: what the byte changed, as the whole record and the call's answer. Assumes nothing.
+-- `engine::take` meets its contract: what the byte changed, as the whole record and the call's answer. Assumes nothing.
 use mathlib.Core.Path.{_≡_, sym, ap, _∙_}
 use denote.Ref.{now}
 use Rattle.rules.specs.StandIn.{byteCall}

@@ -1,4 +1,4 @@
--- `rattle_by_value` is safe and ends: each byte is taken once. Assumes nothing.
+-- `exports_value::rattle_by_value` is safe and ends: each byte is taken once. Assumes nothing.
 use mathlib.Core.Path.{_≡_}
 use Prim.Native.Nat.{_-_, _<_, _≤_}
 use lib.ListN.{length}

@@ -1,4 +1,4 @@
--- `last_code_block`: of a chip with no code block both sides are 0. Assumes nothing.
+-- `options::last_code_block`: of a chip with no code block both sides are 0. Assumes nothing.
 use borrow.Author.Needs.{needs}
 use Rattle.options.proofs.last_code_block.Statement.{statement}
 use Rattle.options.proofs.last_code_block.Tie as tie

@@ -1,4 +1,4 @@
--- `shown_end`: the test of the code is the test of the definition. Assumes nothing.
+-- `options::shown_end`: the test of the code is the test of the definition. Assumes nothing.
 use borrow.Author.Tests.{eq-eqb, ne-eqb}
 use Rattle.options.proofs.shown_end.Statement.{statement}
 use Rattle.options.proofs.shown_end.Tie as tie

@@ -1,4 +1,4 @@
--- `shown_fswe`: the window's last block as it reads back. Assumes nothing.
+-- `options::shown_fswe`: the window's last block as it reads back. Assumes nothing.
 use borrow.Author.Needs.{needs}
 use Rattle.rules.specs.Options.{shownFSWE}
 use Rattle.options.proofs.shown_fswe.Statement.{statement}

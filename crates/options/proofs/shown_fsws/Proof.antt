@@ -1,4 +1,4 @@
--- `shown_fsws`: the window's first block as it reads back. Assumes nothing.
+-- `options::shown_fsws`: the window's first block as it reads back. Assumes nothing.
 use borrow.Author.Needs.{needs}
 use Rattle.rules.specs.Options.{shownFSWS}
 use Rattle.options.proofs.shown_fsws.Statement.{statement}

@@ -1,4 +1,4 @@
--- `shown_sf1`: the sum of the named bits of SF1 and BTFLG. Assumes nothing.
+-- `options::shown_sf1`: the sum of the named bits of SF1 and BTFLG. Assumes nothing.
 use borrow.Author.Needs.{needs}
 use Rattle.rules.specs.Options.{shownSF1}
 use Rattle.options.proofs.shown_sf1.Statement.{statement}

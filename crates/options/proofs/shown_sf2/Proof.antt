@@ -1,4 +1,4 @@
--- `shown_sf2`: the sum of the named bits of SF2. Assumes nothing.
+-- `options::shown_sf2`: the sum of the named bits of SF2. Assumes nothing.
 use borrow.Author.Needs.{needs}
 use Rattle.rules.specs.Options.{shownSF2}
 use Rattle.options.proofs.shown_sf2.Statement.{statement}

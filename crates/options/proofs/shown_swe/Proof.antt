@@ -1,4 +1,4 @@
--- `shown_swe`: the block that is shown, and FSWC. Assumes nothing.
+-- `options::shown_swe`: the block that is shown, and FSWC. Assumes nothing.
 use borrow.Author.Needs.{needs}
 use Rattle.rules.specs.Options.{shownSWE}
 use Rattle.options.proofs.shown_swe.Statement.{statement}

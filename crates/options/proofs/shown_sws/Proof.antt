@@ -1,4 +1,4 @@
--- `shown_sws`: the block that is shown, and FSPR. Assumes nothing.
+-- `options::shown_sws`: the block that is shown, and FSPR. Assumes nothing.
 use borrow.Author.Needs.{needs}
 use Rattle.rules.specs.Options.{shownSWS}
 use Rattle.options.proofs.shown_sws.Statement.{statement}

@@ -1,4 +1,4 @@
--- `command::pages::compared` meets its contract. Assumes nothing.
+-- `pages::compared` meets its contract. Assumes nothing.
 use borrow.Author.Tests.{eq-eqb, ne-eqb}
 use Rattle.pages.proofs.compared.Statement.{statement}
 use Rattle.pages.proofs.compared.Tie as tie

@@ -1,4 +1,4 @@
--- `command::pages::on_compare` meets its contract: each of its answers is an outcome of `onCompare`. Assumes nothing.
+-- `pages::on_compare` meets its contract: each of its answers is an outcome of `onCompare`. Assumes nothing.
 use mathlib.Core.Path.{_≡_, ap, _∙_}
 use native.Mathlib.Omega.{arith}
 use Rattle.rules.specs.declared.Task.the-variants.{Verifying}

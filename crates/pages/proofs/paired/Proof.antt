@@ -1,4 +1,4 @@
--- `command::pages::paired` meets its contract: there is room for the pair. Assumes nothing.
+-- `pages::paired` meets its contract: there is room for the pair. Assumes nothing.
 use mathlib.Core.Path.{_∙_}
 use native.Mathlib.Omega.{arith}
 use Rattle.rules.specs.Frame.{pair}

@@ -1,4 +1,4 @@
--- `erase_protected`: protection by SEPR. Assumes nothing.
+-- `protect::erase_protected`: protection by SEPR. Assumes nothing.
 use borrow.Author.Needs.{needs}
 use Rattle.rules.specs.Options.{eraseProtected}
 use Rattle.protect.proofs.erase_protected.Statement.{statement}

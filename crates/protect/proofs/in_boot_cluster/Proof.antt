@@ -1,4 +1,4 @@
--- `in_boot_cluster`: by cases of the flash. Assumes nothing.
+-- `protect::in_boot_cluster`: by cases of the flash. Assumes nothing.
 use borrow.Author.Needs.{needs}
 use Rattle.protect.proofs.in_boot_cluster.Statement.{statement}
 use Rattle.protect.proofs.in_boot_cluster.Tie as tie

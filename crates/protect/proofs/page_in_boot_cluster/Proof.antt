@@ -1,4 +1,4 @@
--- `page_in_boot_cluster`: the page's number against the cluster's pages. Assumes nothing.
+-- `protect::page_in_boot_cluster`: the page's number against the cluster's pages. Assumes nothing.
 use mathlib.Core.Path.{_≡_, ap, _∙_}
 use Prim.Native.Nat.{ℕ}
 use lib.Dec.{ltb}

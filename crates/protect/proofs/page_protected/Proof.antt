@@ -1,4 +1,4 @@
--- `page_protected`: protection by WRPR. Assumes nothing.
+-- `protect::page_protected`: protection by WRPR. Assumes nothing.
 use borrow.Author.Needs.{needs}
 use Rattle.rules.specs.Options.{writeProtected}
 use Rattle.protect.proofs.page_protected.Statement.{statement}

@@ -1,4 +1,4 @@
--- `protected`: each return has the tests that led there. Assumes nothing.
+-- `protect::protected`: each return has the tests that led there. Assumes nothing.
 use borrow.Author.Tests.{eq-eqb, ne-eqb}
 use borrow.Author.Needs.{needs}
 use Rattle.protect.proofs.protected.Statement.{statement}

@@ -1,4 +1,4 @@
--- `and_bit`: what `with_bit` is given is a bit. Assumes nothing.
+-- `settings::and_bit`: what `with_bit` is given is a bit. Assumes nothing.
 use native.Mathlib.Nat.{lt-trans}
 use native.Mathlib.Omega.{arith}
 use borrow.Author.Needs.{needs}

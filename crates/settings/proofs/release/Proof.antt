@@ -1,4 +1,4 @@
--- `release`: one bit after another, in the order of the definition, and both window words. Assumes nothing.
+-- `settings::release`: one bit after another, in the order of the definition, and both window words. Assumes nothing.
 use borrow.Author.Needs.{needs}
 use Rattle.rules.specs.Options.{release}
 use Rattle.settings.proofs.release.Statement.{statement}

@@ -1,4 +1,4 @@
--- `security_set`: one bit after another, in the order of the definition. Assumes nothing.
+-- `settings::security_set`: one bit after another, in the order of the definition. Assumes nothing.
 use borrow.Author.Needs.{needs}
 use Rattle.rules.specs.Options.{securitySet}
 use Rattle.settings.proofs.security_set.Statement.{statement}

@@ -1,4 +1,4 @@
--- `window_set`: both window words, with the flag bytes as they were. Assumes nothing.
+-- `settings::window_set`: both window words, with the flag bytes as they were. Assumes nothing.
 use borrow.Author.Needs.{needs}
 use Rattle.rules.specs.Options.{windowSet}
 use Rattle.settings.proofs.window_set.Statement.{statement}

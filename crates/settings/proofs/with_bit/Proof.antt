@@ -1,4 +1,4 @@
--- `with_bit`: the byte with that bit anew is below 256, and so is each part of its sum. Assumes nothing.
+-- `settings::with_bit`: the byte with that bit anew is below 256, and so is each part of its sum. Assumes nothing.
 use Prim.Native.Nat.{_<_}
 use native.Mathlib.Omega.{arith}
 use borrow.Author.Needs.{needs}

@@ -1,4 +1,4 @@
--- `command::verdict::bad_parameter` meets its contract: each return has the code that led there. Assumes nothing.
+-- `verdict::bad_parameter` meets its contract: each return has the code that led there. Assumes nothing.
 use mathlib.Core.Path.{refl, sym, _∙_}
 use native.Mathlib.Omega.{arith}
 use borrow.Author.Tests.{eq-eqb, ne-eqb}

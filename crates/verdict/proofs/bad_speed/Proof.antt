@@ -1,4 +1,4 @@
--- `command::verdict::bad_speed` meets its contract: each return has the tests that led there. Assumes nothing.
+-- `verdict::bad_speed` meets its contract: each return has the tests that led there. Assumes nothing.
 use borrow.Author.Tests.{le-leb, lt-leb}
 use Rattle.verdict.proofs.bad_speed.Statement.{statement}
 use Rattle.verdict.proofs.bad_speed.Tie as tie

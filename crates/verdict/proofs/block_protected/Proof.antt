@@ -1,4 +1,4 @@
--- `command::verdict::block_protected` meets its contract: a block that is there, or none. Assumes nothing.
+-- `verdict::block_protected` meets its contract: a block that is there, or none. Assumes nothing.
 use Rattle.rules.specs.Command.{blockProtected}
 use borrow.Author.Needs.{needs}
 use Rattle.verdict.proofs.block_protected.Statement.{statement}

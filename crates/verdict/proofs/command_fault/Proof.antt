@@ -1,4 +1,4 @@
--- `command::verdict::command_fault` meets its contract: the frame's own rows, then one law for each outcome. Assumes nothing.
+-- `verdict::command_fault` meets its contract: the frame's own rows, then one law for each outcome. Assumes nothing.
 use mathlib.Core.Path.{_≡_, sym, ap, _∙_}
 use mathlib.Core.Bool.{false}
 use Rattle.rules.specs.declared.Fault.the-variants.{Well}

@@ -1,4 +1,4 @@
--- `command::verdict::has_pair` meets its contract: each return has the tests that led there. Assumes nothing.
+-- `verdict::has_pair` meets its contract: each return has the tests that led there. Assumes nothing.
 use borrow.Author.Tests.{eq-eqb, ne-eqb}
 use Rattle.verdict.proofs.has_pair.Statement.{statement}
 use Rattle.verdict.proofs.has_pair.Tie as tie

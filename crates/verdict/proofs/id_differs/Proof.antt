@@ -1,4 +1,4 @@
--- `command::verdict::id_differs` meets its contract: the ten bytes lie in the frame, and in a code flash that is long enough. Assumes nothing.
+-- `verdict::id_differs` meets its contract: the ten bytes lie in the frame, and in a code flash that is long enough. Assumes nothing.
 use mathlib.Core.Path.{_≡_, refl, sym, ap, _∙_}
 use mathlib.Core.Bool.{false, not}
 use mathlib.Core.List.{List}

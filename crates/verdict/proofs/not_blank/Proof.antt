@@ -1,4 +1,4 @@
--- `command::verdict::not_blank` meets its contract: each return has the tests that led there. Assumes nothing.
+-- `verdict::not_blank` meets its contract: each return has the tests that led there. Assumes nothing.
 use borrow.Author.Tests.{eq-eqb, ne-eqb, not-true, not-false}
 use Rattle.rules.specs.Command.{notBlank}
 use Rattle.wire.proofs.Frames.{code-in}

@@ -1,4 +1,4 @@
--- `command::verdict::protected` meets its contract: each return has the code that led there. Assumes nothing.
+-- `verdict::protected` meets its contract: each return has the code that led there. Assumes nothing.
 use borrow.Author.Tests.{eq-eqb, ne-eqb}
 use Rattle.rules.specs.Command.{protected}
 use Rattle.wire.proofs.Frames.{code-in}

@@ -1,4 +1,4 @@
--- `command::tasks::after_mode` meets its contract: each return has the tests that led there. Assumes nothing.
+-- `device::tasks::after_mode` meets its contract: each return has the tests that led there. Assumes nothing.
 use borrow.Author.Tests.{eq-eqb, ne-eqb}
 use Rattle.device.proofs.tasks.after_mode.Statement.{statement}
 use Rattle.device.proofs.tasks.after_mode.Tie as tie

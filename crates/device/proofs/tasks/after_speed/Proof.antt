@@ -1,4 +1,4 @@
--- `command::tasks::after_speed` meets its contract: IDEN decides. Assumes nothing.
+-- `device::tasks::after_speed` meets its contract: IDEN decides. Assumes nothing.
 use borrow.Author.Tests.{eq-eqb, ne-eqb}
 use borrow.Author.Needs.{needs}
 use Rattle.device.proofs.tasks.after_speed.Statement.{statement}

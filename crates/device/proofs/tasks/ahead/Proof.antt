@@ -1,4 +1,4 @@
--- `command::tasks::ahead` meets its contract: each return has the tests that led there. Assumes nothing.
+-- `device::tasks::ahead` meets its contract: each return has the tests that led there. Assumes nothing.
 use mathlib.Core.Path.{_≡_}
 use mathlib.Core.Bool.{false}
 use Prim.Native.Nat.{_+_, _<_}

@@ -1,4 +1,4 @@
--- `command::tasks::pages_of` meets its contract: the pages can be counted. Assumes nothing.
+-- `device::tasks::pages_of` meets its contract: the pages can be counted. Assumes nothing.
 use native.Mathlib.Omega.{arith}
 use Rattle.rules.specs.StandIn.{pagesOf}
 use Rattle.finder.proofs.Geometry.{few-pages}

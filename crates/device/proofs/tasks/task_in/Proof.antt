@@ -1,4 +1,4 @@
--- `command::tasks::task_in` meets its contract: a command begun whose pages are in the flash. Assumes nothing.
+-- `device::tasks::task_in` meets its contract: a command begun whose pages are in the flash. Assumes nothing.
 use borrow.Author.Needs.{needs}
 use Rattle.device.proofs.tasks.task_in.Statement.{statement}
 use Rattle.device.proofs.tasks.task_in.Tie as tie

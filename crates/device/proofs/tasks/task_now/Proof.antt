@@ -1,4 +1,4 @@
--- `command::tasks::task_now` meets its contract: one phase has a command begun. Assumes nothing.
+-- `device::tasks::task_now` meets its contract: one phase has a command begun. Assumes nothing.
 use Rattle.rules.specs.StandIn.{taskNow}
 use borrow.Author.Needs.{needs}
 use Rattle.device.proofs.tasks.task_now.Statement.{statement}

@@ -1,4 +1,4 @@
--- `on_frame` meets its contract. Assumes nothing.
+-- `engine::frames::on_frame` meets its contract. Assumes nothing.
 use mathlib.Core.Path.{_≡_, refl, sym, ap, _∙_}
 use denote.Ref.{now}
 use Rattle.rules.specs.StandIn.{Out, answered}

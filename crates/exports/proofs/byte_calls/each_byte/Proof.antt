@@ -1,4 +1,4 @@
--- `each_byte` is safe and ends: each byte is taken once. Assumes nothing.
+-- `exports::byte_calls::each_byte` is safe and ends: each byte is taken once. Assumes nothing.
 use mathlib.Core.Path.{_≡_}
 use Prim.Native.Nat.{_-_, _<_, _≤_}
 use lib.ListN.{length}

@@ -1,4 +1,4 @@
--- `mixed_bytes` is safe and ends: each byte is passed once. Assumes nothing.
+-- `exports::digest::mixed_bytes` is safe and ends: each byte is passed once. Assumes nothing.
 use Prim.Native.Nat.{_-_, _≤_}
 use lib.ListN.{length}
 use borrow.Author.Needs.{needs}

@@ -1,4 +1,4 @@
--- `rattle_player` is safe and ends: each call is made once. Assumes nothing.
+-- `exports::player_calls::rattle_player` is safe and ends: each call is made once. Assumes nothing.
 use mathlib.Core.Path.{_≡_}
 use Prim.Native.Nat.{_-_, _≤_}
 use lib.ListN.{length}

@@ -1,4 +1,4 @@
--- `off`: nothing received, and a fresh chip's options. Assumes nothing.
+-- `standin::call::off`: nothing received, and a fresh chip's options. Assumes nothing.
 use mathlib.Core.Path.{_≡_, ap}
 use borrow.Author.Needs.{needs}
 use Rattle.rules.specs.declared.Options.{Options}

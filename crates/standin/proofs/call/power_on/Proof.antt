@@ -1,4 +1,4 @@
--- `power_on` meets its contract. Assumes nothing.
+-- `standin::call::power_on` meets its contract. Assumes nothing.
 use mathlib.Core.Path.{_≡_, refl, sym, ap, _∙_}
 use denote.Ref.{now}
 use borrow.Author.Tests.{not-true, not-false}

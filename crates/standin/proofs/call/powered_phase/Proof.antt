@@ -1,4 +1,4 @@
--- `powered_phase` meets its contract. Assumes nothing.
+-- `standin::call::powered_phase` meets its contract. Assumes nothing.
 use mathlib.Core.Path.{_≡_, sym, _∙_}
 use borrow.Author.Tests.{eq-eqb, ne-eqb}
 use borrow.Author.Needs.{needs}

@@ -1,4 +1,4 @@
--- `take_byte` meets its contract. Assumes nothing.
+-- `standin::call::take_byte` meets its contract. Assumes nothing.
 use mathlib.Core.Path.{_≡_, refl, sym, ap, _∙_}
 use denote.Ref.{now}
 use Rattle.rules.specs.declared.Chip.{Chip}

@@ -1,4 +1,4 @@
--- `feed` meets its contract. Assumes nothing.
+-- `standin::feeding::feed` meets its contract. Assumes nothing.
 use mathlib.Core.Path.{_≡_, refl, sym, ap, _∙_}
 use mathlib.Core.List.{List, _++_}
 use Prim.Native.Nat.{ℕ, _+_, _-_, _<_, _≤_}

@@ -1,4 +1,4 @@
--- `all_bytes` meets its contract. Assumes nothing.
+-- `standin::opening::all_bytes` meets its contract. Assumes nothing.
 use mathlib.Core.Path.{_≡_, ap, _∙_}
 use mathlib.Core.List.{List, _∷_, _++_, append-nil}
 use Prim.Native.Nat.{ℕ}

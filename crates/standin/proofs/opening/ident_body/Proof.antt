@@ -1,4 +1,4 @@
--- `ident_body` meets its contract. Assumes nothing.
+-- `standin::opening::ident_body` meets its contract. Assumes nothing.
 use mathlib.Core.Path.{_≡_, ap, _∙_}
 use mathlib.Core.List.{List, _∷_, append-nil}
 use Prim.Native.Nat.{ℕ}

@@ -1,4 +1,4 @@
--- `open` meets its contract. Assumes nothing.
+-- `standin::opening::open` meets its contract. Assumes nothing.
 use mathlib.Core.Path.{_≡_, sym, ap, _∙_}
 use mathlib.Core.List.{List}
 use Prim.Native.Nat.{ℕ}

@@ -1,14 +1,13 @@
 -- The joined calls, outcome by outcome; and what is known where none is refused. Assumes nothing.
-use mathlib.Core.Path.{_≡_, refl, sym, ap, _∙_}
-use mathlib.Core.Bool.{Bool, true, false, cond, not, _&&_, false≢true}
+use mathlib.Core.Path.{_≡_, refl, ap}
+use mathlib.Core.Bool.{Bool, true, false, not, _&&_, false≢true}
 use mathlib.Core.List.{List, [], _∷_}
-use Prim.Native.Nat.{ℕ, _+_, _<_, _≤_}
+use Prim.Native.Nat.{ℕ, _+_, _≤_}
 use native.Mathlib.Omega.{arith}
 use lib.Dec.{ltb, leb, eqb}
 use lib.ListN.{length}
 use borrow.Author.Tests.{eqb-true, leb-true, ltb-false}
 use Rattle.rules.specs.declared.Chip.{Chip}
-use Rattle.rules.specs.declared.Flash.{Flash}
 use Rattle.rules.specs.declared.Flash.the-variants.{Code, Data}
 use Rattle.rules.specs.declared.Player.{Player}
 use Rattle.rules.specs.declared.Refusal.{Refusal}
@@ -20,16 +19,16 @@ use Rattle.rules.specs.declared.Verdict.the-variants.{Accepted}
 use Rattle.rules.specs.declared.Verdict.the-variants as v
 use Rattle.rules.specs.Chip.{flashSize}
 use Rattle.rules.specs.StandIn.{replyRoom}
-use Rattle.rules.specs.Sheet.{verdict, count, stepAt, andThen, rule, firstBroken}
+use Rattle.rules.specs.Sheet.{verdict, stepAt, andThen, rule, firstBroken}
 use Rattle.rules.specs.Player.{newPlayer, lost, playerVerdict, frameRoom}
 use Rattle.rules.specs.Run.{clean, Joined, run, stepRun, mostFrames, waits}
 use Rattle.rules.proofs.Sheet.{refused≢accepted}
 use Rattle.rules.proofs.Choices.{both}
 use Rattle.moves.proofs.Stands.{ready-stands, allowed-call}
-use Rattle.turns.specs.Turns.{Sized, Fit, Begins}
+use Rattle.turns.specs.Turns.{Sized, Fit}
 use Rattle.bench.specs.declared.Answer.the-variants.{Refused, NotAtStep, Busy, Played}
 use Rattle.checks.specs.Checks.{joinedVerdict, isReady, startsStep}
-use Rattle.bench.specs.Plays.{Outcome, outcome, lengths, judged, stepPlayed, sheetPlayed}
+use Rattle.bench.specs.Plays.{outcome, lengths, judged, stepPlayed, sheetPlayed}
 use Rattle.line.specs.Turn.{Rooms}
 use Rattle.bench.specs.Starts.{Opens}
 use Rattle.line.specs.Turn.{Starts}

@@ -1,5 +1,5 @@
 -- DEMAND 3 for the joined calls: what is played comes to the meaning. Assumes nothing.
-use mathlib.Core.Path.{_≡_, refl, sym, ap, _∙_}
+use mathlib.Core.Path.{_≡_, refl, ap, _∙_}
 use mathlib.Core.Bool.{Bool, true, false, cond}
 use mathlib.Core.List.{List}
 use Prim.Native.Nat.{ℕ}
@@ -10,11 +10,11 @@ use Rattle.rules.specs.declared.Player.{Player}
 use Rattle.rules.specs.declared.Verdict.{Verdict}
 use Rattle.rules.specs.declared.Verdict.the-variants.{Accepted}
 use Rattle.rules.specs.declared.Verdict.the-variants as v
-use Rattle.rules.specs.Sheet.{verdict, stepAt}
+use Rattle.rules.specs.Sheet.{stepAt}
 use Rattle.rules.specs.Player.{newPlayer}
 use Rattle.rules.specs.Meaning.{stepMeaning}
 use Rattle.rules.specs.Run.{clean, Joined, Ran, run, stepRun, waits}
-use Rattle.turns.specs.Turns.{Sized, Fit, Begins, StepEnds, Means}
+use Rattle.turns.specs.Turns.{Sized, StepEnds, Means}
 use Rattle.turns.proofs.Run.{run-means}
 use Rattle.turns.proofs.Steps.{step-ends}
 use Rattle.bench.specs.declared.Answer.{Answer}

@@ -1,6 +1,6 @@
 -- Which refusal a joined call names: one law for each. Assumes nothing.
 use mathlib.Core.Path.{_≡_}
-use mathlib.Core.Bool.{true, false, not}
+use mathlib.Core.Bool.{true, false}
 use mathlib.Core.List.{List}
 use Prim.Native.Nat.{_<_, _≤_}
 use lib.Dec.{eqb}

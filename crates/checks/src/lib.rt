@@ -17,7 +17,6 @@ use sheet::read::pages_of;
 use sheet::read::step_at;
 ghost use mathlib.Core.Path.{_≡_};
 ghost use Prim.Native.Nat.{_≤_};
-ghost use lib.ListN.{length};
 ghost use Rattle.rules.specs.Chip.{Memory};
 ghost use Rattle.rules.specs.Run.{mostFrames, waits};
 ghost use Rattle.engine.specs.View.{view};

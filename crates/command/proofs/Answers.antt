@@ -1,5 +1,5 @@
 -- Answers in the reply buffer. Assumes nothing.
-use mathlib.Core.Path.{_≡_, refl, sym, ap, _∙_}
+use mathlib.Core.Path.{_≡_, sym, _∙_}
 use Prim.Native.Nat.{ℕ, _+_, _≤_}
 use mathlib.Core.List.{List, [], _∷_, _++_}
 use native.Mathlib.Omega.{arith}
@@ -19,7 +19,7 @@ use Rattle.rules.specs.StandIn.{State, Out, out, rest, optioned, ack, answered,
 use Rattle.device.specs.declared.Core.{Core}
 use Rattle.device.specs.View.{idle, heard}
 use Rattle.command.proofs.Codes.{by-code}
-use Rattle.wire.specs.Buffer.{Put, put, putBytes, putFrame, putAckAnd}
+use Rattle.wire.specs.Buffer.{Put, put, putBytes, putAckAnd}
 use Rattle.wire.proofs.Buffers.{count-put, buffer-put, ack-fits, bytes-fit, length-frame}
 
 -- no answer leaves the buffer

@@ -10,7 +10,7 @@ use Rattle.rules.specs.declared.Phase.the-variants.{Silent}
 use Rattle.rules.specs.declared.Task.the-variants.{Idle}
 use Rattle.rules.specs.Chip.{byteAt}
 use Rattle.rules.specs.Options.{IFPR, securitySet}
-use Rattle.rules.specs.StandIn.{State, Out, Effect, Named, ack, out, rest, optioned, effects, effectOf, onReset, onVerify, onErase, onProgramming, onSpeed, onIdent, onSecuritySet, onSecurityGet, onRelease, onWindowSet, onWindowGet, onChecksum}
+use Rattle.rules.specs.StandIn.{State, Effect, Named, ack, out, rest, optioned, effects, effectOf, onReset, onVerify, onErase, onProgramming, onSpeed, onIdent, onSecuritySet, onSecurityGet, onRelease, onWindowSet, onWindowGet, onChecksum}
 
 -- the effect of a code
 abbrev pub effect : ℕ → Effect

@@ -1,7 +1,6 @@
 -- What each command does, judged well, in the terms of the buffer that holds its frame. Assumes nothing.
 use mathlib.Core.Path.{_≡_, refl, sym, ap, _∙_}
-use mathlib.Core.Bool.{Bool, true, false, cond}
-use Prim.Native.Nat.{ℕ, _+_, _<_}
+use Prim.Native.Nat.{ℕ, _+_}
 use mathlib.Core.List.{List, [], _∷_, _++_}
 use native.Mathlib.Omega.{arith}
 use lib.ListN.{length}
@@ -15,15 +14,13 @@ use Rattle.rules.specs.declared.Found.the-variants.{In, Nowhere}
 use Rattle.rules.specs.declared.Range.{Range}
 use Rattle.rules.specs.declared.Range.the-variants.{Blocks, Invalid}
 use Rattle.rules.specs.declared.Chip.{Chip}
-use Rattle.rules.specs.declared.Options.{Options}
 use Rattle.rules.specs.declared.Phase.the-variants.{Command, Silent}
-use Rattle.rules.specs.declared.Task.{Task}
 use Rattle.rules.specs.declared.Task.the-variants.{Idle, Programming, Verifying}
 use Rattle.rules.specs.Chip.{Memory, byteAt, wordAt, addressAt, wordBytes, flashSize, eraseAddress, range, checksum}
 use Rattle.rules.specs.Options.{IFPR, shownSF1, shownSF2, shownSWS, shownSWE, securitySet, release, windowSet}
 use Rattle.rules.specs.Frame.{dataStart, lastEnd, frame}
 use Rattle.rules.specs.Command.{rows, lookup, lenDue, codeOf}
-use Rattle.rules.specs.StandIn.{State, Out, Effect, out, rest, ack, begun, optioned, told, pagesOf, erased, summed, afterSpeed, effects, effectOf, onReset, onVerify, onErase, onProgramming, onSpeed, onIdent, onSecuritySet, onSecurityGet, onRelease, onWindowSet, onWindowGet, onChecksum}
+use Rattle.rules.specs.StandIn.{Out, out, rest, ack, begun, optioned, told, pagesOf, erased, summed, afterSpeed, effects, effectOf, onVerify, onErase, onProgramming, onSpeed, onIdent, onSecuritySet, onSecurityGet, onRelease, onWindowSet, onWindowGet, onChecksum}
 use Rattle.wire.specs.Buffer.{frameIn}
 use Rattle.wire.proofs.Frames.{code-in}
 use Rattle.device.specs.declared.Core.{Core}

@@ -5,21 +5,19 @@ use device::tasks;
 use rules::Address;
 use rules::Chip;
 use rules::Fault;
-use rules::Flash;
 use rules::Found;
 use rules::Options;
 use rules::Phase;
 use rules::Range;
 use rules::Task;
 ghost use mathlib.Core.Path.{_≡_};
-ghost use mathlib.Core.List.{List};
-ghost use Prim.Native.Nat.{ℕ, _+_, _<_, _≤_};
+ghost use Prim.Native.Nat.{_+_, _<_};
 ghost use lib.ListN.{length};
 ghost use Rattle.rules.specs.declared.Flash.the-variants.{Code, Data};
 ghost use Rattle.rules.specs.Chip.{Memory, wordAt, flashSize, range};
 ghost use Rattle.rules.specs.StandIn.{summed, silences, phaseAfter, onCommand, answered};
 ghost use Rattle.finder.specs.Lent.{memory};
-ghost use Rattle.wire.specs.Buffer.{frameIn, put, Put, putBytes};
+ghost use Rattle.wire.specs.Buffer.{frameIn, put, putBytes};
 ghost use Rattle.device.specs.View.{idle, heard, effected, LenFits, Fits};
 
 // A device with nothing received.

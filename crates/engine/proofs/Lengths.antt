@@ -1,15 +1,14 @@
 -- No answer is longer than 16 bytes, and a byte call leaves the reply buffer its length. Assumes nothing.
-use mathlib.Core.Path.{_≡_, refl, sym, ap, _∙_}
+use mathlib.Core.Path.{_≡_, refl}
 use mathlib.Core.Bool.{Bool, true, false, cond, _&&_}
 use mathlib.Core.List.{List, [], _∷_, _++_}
 use Prim.Native.Nat.{ℕ, _+_, _-_, _≤_}
 use native.Mathlib.Omega.{arith}
 use lib.Dec.{ltb, eqb}
-use lib.ListN.{length, drop, length-append, length-drop}
+use lib.ListN.{length}
 use borrow.Author.Tests.{ltb-false}
 use Rattle.rules.specs.declared.Chip.{Chip}
 use Rattle.rules.specs.declared.Flash.the-variants.{Code, Data}
-use Rattle.rules.specs.declared.Call.{Call}
 use Rattle.rules.specs.declared.Call.the-variants.{Refused, Answer}
 use Rattle.rules.specs.declared.Refusal.{Refusal}
 use Rattle.rules.specs.declared.Refusal.the-variants.{D1, D2, D3}
@@ -18,10 +17,10 @@ use Rattle.rules.specs.declared.Phase.the-variants.{Mode, Speed, Ident, Command
 use Rattle.rules.specs.declared.Pages.{Pages}
 use Rattle.rules.specs.declared.Task.{Task}
 use Rattle.rules.specs.declared.Task.the-variants.{Idle, Programming, Verifying}
-use Rattle.rules.specs.Chip.{fits, over}
-use Rattle.rules.specs.Frame.{dataStart, lastEnd, pair, one, statusByte, whole, dataFault}
+use Rattle.rules.specs.Chip.{fits}
+use Rattle.rules.specs.Frame.{dataStart, lastEnd, pair, statusByte, whole, dataFault}
 use Rattle.rules.specs.Command.{codeOf, commandFault}
-use Rattle.rules.specs.StandIn.{State, Out, Outcome, answered, holding, startOf, lastPage, taskNow, onCommand, onPage, onCompare, onTask, onFrame, receive, takes, step, byteCall}
+use Rattle.rules.specs.StandIn.{State, Out, Outcome, answered, startOf, lastPage, taskNow, onCommand, onPage, onCompare, onTask, onFrame, receive, takes, step, byteCall}
 use Rattle.wire.proofs.Buffers.{length-frame}
 use Rattle.command.proofs.Answers.{one-short, effect-short}
 use Rattle.engine.specs.View.{came}

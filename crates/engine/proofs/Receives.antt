@@ -1,14 +1,14 @@
 -- One byte taken, in the terms of a count and a frame buffer. Assumes nothing.
 use mathlib.Core.Path.{_≡_, refl, sym, ap, _∙_}
-use mathlib.Core.Bool.{Bool, true, false, cond, _||_, _&&_, false≢true}
+use mathlib.Core.Bool.{Bool, true, false, cond, _||_, false≢true}
 use mathlib.Core.List.{List, [], _∷_, _++_}
-use Prim.Native.Nat.{ℕ, zero, suc, _+_, _<_, _≤_}
+use Prim.Native.Nat.{ℕ, _+_, _<_, _≤_}
 use native.Mathlib.Omega.{arith}
 use native.Mathlib.Numerals.{add-one}
-use lib.Dec.{ltb, leb, eqb}
-use lib.ListN.{length, take, drop, set, getD, length-set}
-use lib.Seq.{take-suc-set, getD-take, getD-set-other, getD-set-same, length-take-le}
-use borrow.Author.Tests.{eqb-true, eqb-false, ltb-true, ltb-false, lt-ltb, le-ltb, le-leb, eq-eqb, ne-eqb}
+use lib.Dec.{ltb, eqb}
+use lib.ListN.{length, take, set, length-set}
+use lib.Seq.{take-suc-set, getD-take, getD-set-other, length-take-le}
+use borrow.Author.Tests.{eqb-true, eqb-false, ltb-true, lt-ltb, le-ltb, le-leb, eq-eqb, ne-eqb}
 use Rattle.rules.specs.declared.Chip.{Chip}
 use Rattle.rules.specs.declared.Phase.{Phase}
 use Rattle.rules.specs.declared.Phase.the-variants.{Mode, Speed, Ident, Command, Silent}
@@ -16,10 +16,10 @@ use Rattle.rules.specs.declared.Flash.the-variants.{Code, Data}
 use Rattle.rules.specs.declared.Call.the-variants.{Refused, Answer}
 use Rattle.rules.specs.declared.Refusal.the-variants.{D1, D2, D3}
 use Rattle.rules.specs.declared.Task.the-variants.{Idle}
-use Rattle.rules.specs.Chip.{Memory, fits, over}
-use Rattle.rules.specs.Frame.{bodySize, frameSize, lenOf, whole}
+use Rattle.rules.specs.Chip.{fits, over}
+use Rattle.rules.specs.Frame.{frameSize, lenOf, whole}
 use Rattle.rules.specs.Command.{phaseNumber}
-use Rattle.rules.specs.StandIn.{State, Out, Outcome, out, rest, holding, startOf, taskNow, onFrame, receive, takes, step, afterMode, answered, byteCall, received}
+use Rattle.rules.specs.StandIn.{State, Out, out, rest, holding, startOf, taskNow, onFrame, receive, takes, step, afterMode, answered, byteCall, received}
 use Rattle.wire.proofs.Frames.{frame-size, body-least}
 use Rattle.wire.specs.Buffer.{frameIn}
 use Rattle.engine.specs.View.{came, heldOf, listening}

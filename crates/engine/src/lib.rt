@@ -14,7 +14,7 @@ ghost use lib.ListN.{length};
 ghost use Rattle.rules.specs.declared.Call.the-variants.{Answer};
 ghost use Rattle.rules.specs.Chip.{Memory};
 ghost use Rattle.rules.specs.Frame.{frameSize, lenOf};
-ghost use Rattle.rules.specs.StandIn.{Outcome, byteCall, receive, answered, received};
+ghost use Rattle.rules.specs.StandIn.{byteCall, receive, answered, received};
 ghost use Rattle.finder.specs.Lent.{memory};
 ghost use Rattle.device.specs.View.{Fits};
 ghost use Rattle.engine.specs.View.{view, came, heldOf, holds, listening};

@@ -2,7 +2,7 @@
 use mathlib.Core.Path.{_≡_, refl, ap, _∙_}
 use mathlib.Core.Bool.{Bool, true, false, cond, _||_}
 use mathlib.Core.List.{List}
-use Prim.Native.Nat.{ℕ, _+_, _-_, _*_, _<_, _≤_}
+use Prim.Native.Nat.{ℕ, _+_, _-_, _≤_}
 use native.Mathlib.Omega.{arith}
 use lib.Dec.{eqb}
 use borrow.Author.Tests.{eq-eqb, ne-eqb, eqb-false}
@@ -10,9 +10,7 @@ use lib.ListN.{length, take, drop, length-drop}
 use lib.Seq.{take-all, drop-drop, getD-drop}
 use Rattle.rules.specs.declared.Address.{Address}
 use Rattle.rules.specs.declared.Chip.{Chip}
-use Rattle.rules.specs.declared.Flash.{Flash}
-use Rattle.rules.specs.declared.Flash.the-variants.{Code, Data}
-use Rattle.rules.specs.Chip.{byteAt, wordAt, addressAt, range, pagesPerBlock}
+use Rattle.rules.specs.Chip.{byteAt, wordAt, addressAt, range}
 use Rattle.rules.specs.Sheet.{tableEnd, entryAt, kindAt, zeroAt, offsetAt, rangeAt, bodyLength, bodyEnd, offsetDue, kindOf, stepOf, stepAt}
 use Rattle.entries.specs.declared.Entry.{Entry}
 use Rattle.entries.specs.Entry.{entryIn, fieldsOf, lengthOf, endOf}

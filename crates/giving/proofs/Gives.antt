@@ -1,8 +1,8 @@
 -- The frame that is given, in its buffer: one law for each outcome; and, where the sheet is accepted and the player in it, that it is the
 -- frame of the definitions. Assumes nothing.
 use mathlib.Core.Path.{_≡_, refl, sym, ap, _∙_}
-use mathlib.Core.Bool.{Bool, true, false, cond}
-use mathlib.Core.List.{List, [], _∷_}
+use mathlib.Core.Bool.{Bool, true, false}
+use mathlib.Core.List.{List}
 use Prim.Native.Nat.{ℕ, _+_, _-_, _*_, _<_, _≤_}
 use native.Mathlib.Omega.{arith}
 use lib.Dec.{leb}
@@ -18,13 +18,13 @@ use Rattle.rules.specs.declared.Step.{Step}
 use Rattle.rules.specs.declared.Verdict.the-variants.{Accepted}
 use Rattle.rules.specs.Chip.{over, pageSize}
 use Rattle.rules.specs.Frame.{frame}
-use Rattle.rules.specs.Sheet.{stepAt, stepPages, bodyPage, verdict}
-use Rattle.rules.specs.Player.{command, pageFrame, awaits, emitBy, emitted, lost}
+use Rattle.rules.specs.Sheet.{stepAt, bodyPage, verdict}
+use Rattle.rules.specs.Player.{pageFrame, awaits, emitBy, emitted, lost}
 use Rattle.sheet.proofs.Accepted.{Inside, sound, page-inside}
 use Rattle.wire.specs.Buffer.{Put, put, putBytes}
 use Rattle.wire.proofs.Buffers.{bytes-fit, length-frame}
-use Rattle.moves.proofs.Stands.{Paging, page-stands}
-use Rattle.giving.specs.Giving.{Gave, gave, gaveBy, pageThere, givesPage, givesBy, gives}
+use Rattle.moves.proofs.Stands.{page-stands}
+use Rattle.giving.specs.Giving.{gave, gaveBy, pageThere, givesPage, givesBy, gives}
 
 -- ---- bytes put over the first of a buffer ----
 

@@ -1,7 +1,7 @@
 -- A turn as the code makes it, part by part, is a turn of the definitions. Assumes nothing.
-use mathlib.Core.Path.{_≡_, refl, sym, ap, _∙_}
-use mathlib.Core.Bool.{true, false}
-use mathlib.Core.List.{List, [], _∷_, _++_}
+use mathlib.Core.Path.{_≡_, sym, ap, _∙_}
+use mathlib.Core.Bool.{true}
+use mathlib.Core.List.{List, _∷_}
 use Prim.Native.Nat.{ℕ, suc, _≤_}
 use native.Mathlib.Omega.{arith}
 use lib.ListN.{length, take, drop}
@@ -14,8 +14,8 @@ use Rattle.rules.specs.declared.Flash.the-variants.{Code, Data}
 use Rattle.rules.specs.declared.Player.{Player}
 use Rattle.rules.specs.Chip.{over, fits}
 use Rattle.rules.specs.Command.{phaseNumber}
-use Rattle.rules.specs.StandIn.{State, Out, out, Fed, rest, startOf, taskNow, onFrame, feed}
-use Rattle.rules.specs.Player.{Absorbed, absorbs, absorbed, Sent, emitted, lost}
+use Rattle.rules.specs.StandIn.{State, Out, out, Fed, rest, startOf, taskNow, onFrame}
+use Rattle.rules.specs.Player.{Absorbed, absorbs, absorbed, Sent, emitted}
 use Rattle.rules.specs.Run.{clean, Joined, joining, joined, turned}
 use Rattle.standin.specs.Feeding.{Feeding, feeding, fedInto}
 use Rattle.standin.proofs.Whole.{feed-frame, fed-frame, joined-told}

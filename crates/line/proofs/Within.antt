@@ -1,16 +1,15 @@
 -- Within a step: the run of the step leads here, and so it does after one more turn. Assumes nothing.
-use mathlib.Core.Path.{_≡_, refl, sym, ap, _∙_}
+use mathlib.Core.Path.{_≡_, sym, ap, _∙_}
 use mathlib.Core.Bool.{Bool, true, false, cond, false≢true}
 use mathlib.Core.List.{List}
-use Prim.Native.Nat.{ℕ, zero, suc, _+_, _-_, _<_, _≤_}
+use Prim.Native.Nat.{ℕ, suc, _+_, _-_, _<_}
 use native.Mathlib.Omega.{arith}
 use lib.ListN.{length}
 use Rattle.rules.specs.declared.Chip.{Chip}
-use Rattle.rules.specs.declared.Options.{Options}
-use Rattle.rules.specs.Meaning.{Done, stepMeaning}
+use Rattle.rules.specs.Meaning.{stepMeaning}
 use Rattle.rules.specs.Sheet.{stepAt}
 use Rattle.rules.specs.Run.{clean, Joined, Ran, ran, turned, between, stepFrom, mostFrames, stepRun}
-use Rattle.turns.specs.Turns.{Sized, StepEnds}
+use Rattle.turns.specs.Turns.{Sized}
 use Rattle.turns.proofs.Turns.{Mid, Turned, Ends, Goes, mid-frame, mid-found, turn, turn-as}
 use Rattle.turns.proofs.Steps.{begin}
 use Rattle.line.specs.Turn.{Rooms, Turns}

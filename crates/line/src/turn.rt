@@ -8,7 +8,7 @@ use rules::Stage;
 use standin::feeding::feed;
 use taking::absorb;
 ghost use mathlib.Core.Path.{_≡_};
-ghost use lib.ListN.{length, take};
+ghost use lib.ListN.{take};
 ghost use Rattle.rules.specs.Run.{clean, turned, between};
 ghost use Rattle.line.specs.Rigs.{rigged, answerSize};
 ghost use Rattle.line.specs.Turn.{Turns};

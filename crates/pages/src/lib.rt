@@ -2,10 +2,7 @@
 use device::Core;
 use device::Heard;
 use rules::Chip;
-use rules::Flash;
-use rules::Options;
 use rules::Pages;
-use rules::Phase;
 use rules::Task;
 ghost use mathlib.Core.Path.{_≡_};
 ghost use mathlib.Core.Bool.{true, cond, _&&_};

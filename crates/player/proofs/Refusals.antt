@@ -17,7 +17,7 @@ use Rattle.rules.specs.declared.Report.{Report}
 use Rattle.rules.specs.declared.Verdict.the-variants.{Accepted}
 use Rattle.rules.specs.declared.Verdict.the-variants as v
 use Rattle.rules.specs.Sheet.{verdict}
-use Rattle.rules.specs.Player.{Absorbed, absorbs, absorbed, emitted, reportOf, lost, frameRoom, playerVerdict, Called, calls, nextOf, played, called}
+use Rattle.rules.specs.Player.{Absorbed, absorbs, absorbed, emitted, reportOf, lost, frameRoom, playerVerdict, calls, nextOf, played, called}
 use Rattle.moves.proofs.Moves.{call-refused, call-played}
 use Rattle.moves.proofs.Onward.{absorbed-stands}
 use Rattle.moves.proofs.Stands.{call-allowed}

@@ -10,7 +10,6 @@ use line::Rig;
 use player::report::report;
 use rules::Chip;
 use rules::Player;
-use rules::Stage;
 use rules::Verdict;
 use sheet::read::step_at;
 use std::num::wrapping_add_usize;

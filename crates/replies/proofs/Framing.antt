@@ -2,16 +2,14 @@
 -- judged alike whether they are compared or decoded. Assumes nothing.
 use mathlib.Core.Path.{_≡_, refl, sym, ap, _∙_}
 use mathlib.Core.Bool.{Bool, true, false, cond, _&&_}
-use mathlib.Core.List.{List, [], _∷_, _++_}
+use mathlib.Core.List.{List, [], _∷_}
 use Prim.Native.Nat.{ℕ, _+_, _%_, _<_, _≤_}
 use native.Mathlib.Omega.{arith}
 use lib.Dec.{eqb}
 use lib.ListN.{length, take, drop, length-take}
 use borrow.Author.Tests.{eq-eqb, ne-eqb, eqb-true, eqb-false}
-use Rattle.rules.specs.declared.Status.{Status}
 use Rattle.rules.specs.declared.Status.the-variants.{Byte, L1}
 use Rattle.rules.specs.Chip.{byteAt, total, same}
-use Rattle.rules.specs.Frame.{dataStart, lastEnd}
 use Rattle.rules.specs.Player.{well, framed, commandReply, sumReply, dataReply}
 use Rattle.spans.proofs.Lists.{same-equal}
 use Rattle.wire.proofs.Sum.{total-frame, sum-same}

@@ -1,22 +1,20 @@
 -- 01, Commands: the table of codes, and the verdict on a command frame in the order of the status table. Assumes nothing.
-use Prim.Native.Nat.{ℕ, _+_, _*_}
-use mathlib.Core.Bool.{Bool, true, false, cond, not, _&&_, _||_}
+use Prim.Native.Nat.{ℕ, _+_}
+use mathlib.Core.Bool.{Bool, false, cond, not, _&&_, _||_}
 use mathlib.Core.List.{List, [], _∷_, _++_}
-use lib.Dec.{ltb, leb, eqb}
-use lib.ListN.{length, take, drop}
+use lib.Dec.{leb, eqb}
+use lib.ListN.{take, drop}
 use Rattle.rules.specs.declared.Chip.{Chip}
 use Rattle.rules.specs.declared.Address.{Address}
 use Rattle.rules.specs.declared.Found.{Found}
 use Rattle.rules.specs.declared.Found.the-variants.{In, Nowhere}
-use Rattle.rules.specs.declared.Range.{Range}
-use Rattle.rules.specs.declared.Range.the-variants.{Blocks, Invalid}
 use Rattle.rules.specs.declared.Options.{Options}
 use Rattle.rules.specs.declared.Phase.{Phase}
 use Rattle.rules.specs.declared.Phase.the-variants.{Mode, Speed, Ident, Command, Silent}
 use Rattle.rules.specs.declared.Known.{Known}
 use Rattle.rules.specs.declared.Known.the-variants.{Row, Unknown}
 use Rattle.rules.specs.declared.Fault.{Fault}
-use Rattle.rules.specs.declared.Fault.the-variants.{Well, EndByte, Sum, Code, Length, Parameter, NotBlank, Protected}
+use Rattle.rules.specs.declared.Fault.the-variants.{EndByte, Sum, Code, Length, Parameter, NotBlank, Protected}
 use Rattle.rules.specs.declared.Fault.the-variants as fault
 use Rattle.rules.specs.Chip.{Memory, byteAt, addressAt, same, identOf, identSize, blankMemory, eraseAddress, range, invalid, nowhere}
 use Rattle.rules.specs.Options.{BTPR, SEPR, FSPR, eraseProtected}

@@ -1,6 +1,6 @@
 -- Opens every definition for computing: an answer that says `unfolding everything` computes them all (docs/COMPUTE.md). Assumes nothing.
 use Prim.Native.Nat.{ℕ}
-use mathlib.Core.List.{List, [], _∷_}
+use mathlib.Core.List.{List}
 use Rattle.rules.specs.declared.Options.{Options}
 use Rattle.rules.specs.Chip.{Memory, small, total, same, blank, over, partOf, putPart, shown, find, eraseAddress, range, checksum}
 use Rattle.rules.specs.Options.{shownSF1, shownSF2, securitySet, release, windowSet, shownFSWS, shownFSWE, shownSWS, shownSWE, eraseProtected, writeProtected}

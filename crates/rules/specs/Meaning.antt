@@ -1,17 +1,15 @@
 -- 01, Plain meaning and report: what a sheet does to flash, and its report, without packets. Assumes nothing.
-use Prim.Native.Nat.{ℕ, zero, suc, _+_, _-_, _*_, min}
-use mathlib.Core.Bool.{Bool, true, false, cond, not, _&&_, _||_}
-use mathlib.Core.List.{List, [], _∷_, _++_}
-use lib.Dec.{ltb, leb, eqb}
+use Prim.Native.Nat.{ℕ, zero, suc, _+_, _-_, min}
+use mathlib.Core.Bool.{cond, _&&_}
+use mathlib.Core.List.{List}
+use lib.Dec.{leb, eqb}
 use lib.ListN.{set}
 use Rattle.rules.specs.declared.Chip.{Chip}
-use Rattle.rules.specs.declared.Flash.{Flash}
 use Rattle.rules.specs.declared.Options.{Options}
 use Rattle.rules.specs.declared.Kind.{Kind}
 use Rattle.rules.specs.declared.Kind.the-variants.{Erase, Write, Verify, Sum}
 use Rattle.rules.specs.declared.Step.{Step}
-use Rattle.rules.specs.declared.Status.{Status}
-use Rattle.rules.specs.declared.Status.the-variants.{Byte, L1}
+use Rattle.rules.specs.declared.Status.the-variants.{Byte}
 use Rattle.rules.specs.declared.Report.{Report}
 use Rattle.rules.specs.Chip.{Memory, same, blank, block, firstPage, pageOf, putPage, blockOfPage, eraseBlock, bytesFrom, checksum}
 use Rattle.rules.specs.Options.{eraseProtected, writeProtected}

@@ -1,14 +1,13 @@
 -- 01, Our chip, second paragraph: the option bits; and what Security Set, Release and Window Set and Get make of them (01, Commands). Assumes nothing.
 use Prim.Native.Nat.{ℕ, _+_, _-_, _*_, _/_, _%_, _^_}
-use mathlib.Core.Bool.{Bool, true, false, cond, not, _&&_, _||_}
-use mathlib.Core.List.{List, [], _∷_, _++_}
-use lib.Dec.{ltb, leb, eqb}
+use mathlib.Core.Bool.{Bool, cond, _&&_, _||_}
+use lib.Dec.{eqb}
 use Rattle.rules.specs.declared.Chip.{Chip}
 use Rattle.rules.specs.declared.Flash.{Flash}
-use Rattle.rules.specs.declared.Flash.the-variants.{Code, Data}
+use Rattle.rules.specs.declared.Flash.the-variants.{Code}
 use Rattle.rules.specs.declared.Block.{Block}
 use Rattle.rules.specs.declared.Options.{Options}
-use Rattle.rules.specs.Chip.{block, blocks, inBootCluster, wordBytes}
+use Rattle.rules.specs.Chip.{block, blocks, inBootCluster}
 
 -- bit k of a number, and the number with another bit k
 abbrev pub bit : ℕ → ℕ → ℕ

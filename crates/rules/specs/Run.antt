@@ -1,5 +1,5 @@
 -- The player and the stand-in joined by a line: built from Player and StandIn alone. Assumes nothing.
-use Prim.Native.Nat.{ℕ, zero, suc, _+_, _*_}
+use Prim.Native.Nat.{ℕ, zero, suc, _+_}
 use mathlib.Core.Bool.{Bool, true, false, cond}
 use mathlib.Core.List.{List, [], _∷_, _++_}
 use lib.Dec.{eqb}
@@ -15,7 +15,7 @@ use Rattle.rules.specs.declared.Kind.{Kind}
 use Rattle.rules.specs.declared.Kind.the-variants.{Erase, Write, Verify, Sum}
 use Rattle.rules.specs.declared.Step.{Step}
 use Rattle.rules.specs.Chip.{over}
-use Rattle.rules.specs.StandIn.{State, Fed, feed, taskNow}
+use Rattle.rules.specs.StandIn.{State, feed, taskNow}
 use Rattle.rules.specs.Sheet.{count, stepAt, stepBlocks, stepPages}
 use Rattle.rules.specs.Player.{absorbed, emitted, newPlayer}
 

@@ -1,14 +1,12 @@
 -- 01, The job sheet: what stands in it, when it is refused and by which number, and the steps of an accepted one. Assumes nothing.
 use Prim.Native.Nat.{ℕ, zero, suc, _+_, _-_, _*_}
-use mathlib.Core.Bool.{Bool, true, false, cond, not, _&&_, _||_}
-use mathlib.Core.List.{List, [], _∷_, _++_}
+use mathlib.Core.Bool.{Bool, cond, not, _&&_, _||_}
+use mathlib.Core.List.{List, [], _∷_}
 use lib.Dec.{ltb, leb, eqb}
 use lib.ListN.{length, take, drop}
 use Rattle.rules.specs.declared.Chip.{Chip}
-use Rattle.rules.specs.declared.Flash.{Flash}
-use Rattle.rules.specs.declared.Flash.the-variants.{Code, Data}
+use Rattle.rules.specs.declared.Flash.the-variants.{Code}
 use Rattle.rules.specs.declared.Address.{Address}
-use Rattle.rules.specs.declared.Block.{Block}
 use Rattle.rules.specs.declared.Range.{Range}
 use Rattle.rules.specs.declared.Range.the-variants.{Blocks, Invalid}
 use Rattle.rules.specs.declared.Refusal.{Refusal}

@@ -1,13 +1,11 @@
 -- 01, Phases and Commands: the stand-in. What a whole frame does (`onFrame`), and under it one received byte (`step`). Assumes nothing.
-use Prim.Native.Nat.{ℕ, _+_, _-_, _*_, _%_}
-use mathlib.Core.Bool.{Bool, true, false, cond, not, _&&_, _||_}
+use Prim.Native.Nat.{ℕ, _+_, _-_}
+use mathlib.Core.Bool.{Bool, cond, not, _&&_, _||_}
 use mathlib.Core.List.{List, [], _∷_, _++_}
 use lib.Dec.{ltb, leb, eqb}
-use lib.ListN.{length, take, drop}
+use lib.ListN.{length, take}
 use Rattle.rules.specs.declared.Chip.{Chip}
-use Rattle.rules.specs.declared.Flash.{Flash}
 use Rattle.rules.specs.declared.Flash.the-variants.{Code, Data}
-use Rattle.rules.specs.declared.Block.{Block}
 use Rattle.rules.specs.declared.Found.{Found}
 use Rattle.rules.specs.declared.Found.the-variants.{In, Nowhere}
 use Rattle.rules.specs.declared.Range.{Range}

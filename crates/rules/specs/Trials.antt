@@ -1,17 +1,17 @@
 -- 01, Trials: the starred ones, 1 to 12, as one table; a second table of further sessions and a third of sheets. Assumes nothing.
-use Prim.Native.Nat.{ℕ, _+_, _-_, _*_}
-use mathlib.Core.Bool.{Bool, true, false, cond, _&&_}
+use Prim.Native.Nat.{ℕ, _+_}
+use mathlib.Core.Bool.{Bool, true, cond, _&&_}
 use mathlib.Core.List.{List, [], _∷_, _++_}
 use lib.Dec.{eqb}
-use lib.ListN.{length, take, drop, set, replicate}
-use Rattle.rules.specs.declared.Flash.the-variants.{Code, Data}
+use lib.ListN.{set, replicate}
+use Rattle.rules.specs.declared.Flash.the-variants.{Data}
 use Rattle.rules.specs.declared.Options.{Options}
 use Rattle.rules.specs.declared.Report.{Report}
 use Rattle.rules.specs.Chip.{Memory, small, same, freshMemory, putPage, pageSize, wordBytes}
 use Rattle.rules.specs.Options.{freshOptions}
 use Rattle.rules.specs.Frame.{commandStart, dataStart, lastEnd, moreEnd, frame, sumByte}
 use Rattle.rules.specs.Command.{phaseNumber}
-use Rattle.rules.specs.StandIn.{State, rest, feed, powered}
+use Rattle.rules.specs.StandIn.{State, feed, powered}
 use Rattle.rules.specs.Sheet.{verdict}
 use Rattle.rules.specs.Meaning.{Ended, meaning}
 use Rattle.rules.specs.Numbers.{Number, verdictNumber, statusNumber}

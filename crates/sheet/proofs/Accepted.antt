@@ -10,13 +10,11 @@ use lib.Seq.{length-take-le}
 use borrow.Author.Tests.{ltb-false, leb-true, eqb-true, eqb-false, not-false, le-ltb}
 use Rattle.finder.proofs.Geometry.{blocks-in-pages}
 use Rattle.rules.specs.declared.Chip.{Chip}
-use Rattle.rules.specs.declared.Flash.{Flash}
-use Rattle.rules.specs.declared.Flash.the-variants.{Code, Data}
 use Rattle.rules.specs.declared.Kind.the-variants.{Erase, Write, Verify, Sum}
 use Rattle.rules.specs.declared.Range.the-variants.{Blocks}
 use Rattle.rules.specs.declared.Step.{Step}
 use Rattle.rules.specs.declared.Verdict.the-variants.{Accepted}
-use Rattle.rules.specs.Chip.{blocks, blockSize, pageSize, pagesPerBlock}
+use Rattle.rules.specs.Chip.{blocks, blockSize, pageSize}
 use Rattle.rules.specs.Sheet.{count, tableEnd, kindAt, sadAt, eadAt, offsetAt, offsetDue, rangeAt, bodyLength, bodyEnd, verdict, kindOf, stepOf, stepAt, stepBlocks, stepPages, bodyPage}
 use Rattle.rules.specs.Numbers.{kindNumber}
 use Rattle.rules.proofs.Sheet.{EntryAllowed, accepted-allowed, allowed-accepted}

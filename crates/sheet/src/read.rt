@@ -3,7 +3,6 @@ use crate::Reading;
 use crate::judge::verdict;
 use entries::count;
 use entries::entry_at;
-use rules::Address;
 use rules::Block;
 use rules::Chip;
 use rules::Flash;

@@ -1,6 +1,6 @@
 -- Feeding, one byte further. Assumes nothing.
-use mathlib.Core.Path.{_≡_, refl, sym, ap, _∙_}
-use mathlib.Core.List.{List, [], _∷_, _++_}
+use mathlib.Core.Path.{_≡_, sym, ap, _∙_}
+use mathlib.Core.List.{List, _∷_, _++_}
 use Prim.Native.Nat.{ℕ, _+_, _<_, _≤_}
 use native.Mathlib.Omega.{arith}
 use native.Mathlib.Numerals.{add-one}
@@ -12,8 +12,8 @@ use Rattle.rules.specs.declared.Call.the-variants.{Refused, Answer}
 use Rattle.rules.specs.declared.Refusal.{Refusal}
 use Rattle.rules.specs.StandIn.{State, Outcome, byteCall}
 use Rattle.engine.specs.View.{came}
-use Rattle.standin.specs.Feeding.{Feeding, feeding, goesOn, feedFrom}
-use Rattle.engine.proofs.Lengths.{Fitting, call-fits}
+use Rattle.standin.specs.Feeding.{feeding, goesOn, feedFrom}
+use Rattle.engine.proofs.Lengths.{call-fits}
 
 module _ (chip : Chip) (s : State) (out : List ℕ) (w i : ℕ) where
   pub fed-end : (bytes : List ℕ) → length bytes ≤ i → feeding s (Answer w) i out ≡ feedFrom chip s out w i (drop i bytes)

@@ -2,11 +2,7 @@
 use mathlib.Core.Path.{_≡_, sym, ap, _∙_}
 use mathlib.Core.List.{List}
 use Prim.Native.Nat.{ℕ}
-use Rattle.rules.specs.declared.Phase.{Phase}
-use Rattle.rules.specs.declared.Task.{Task}
-use Rattle.rules.specs.declared.Options.{Options}
 use Rattle.rules.specs.declared.Call.{Call}
-use Rattle.rules.specs.Chip.{Memory}
 use Rattle.rules.specs.StandIn.{State, Outcome, Powered}
 use Rattle.engine.specs.View.{came}
 use Rattle.standin.specs.Feeding.{Feeding, feeding}

@@ -5,7 +5,7 @@ use lib.ListN.{take, drop}
 use Rattle.rules.specs.declared.Chip.{Chip}
 use Rattle.rules.specs.declared.Call.{Call}
 use Rattle.rules.specs.declared.Call.the-variants.{Refused, Answer}
-use Rattle.rules.specs.StandIn.{State, Outcome, byteCall}
+use Rattle.rules.specs.StandIn.{State, byteCall}
 
 -- the state, the number of bytes answered or the refusal, how many bytes were taken, and the buffer of answers
 pub record Feeding : Type 0 where

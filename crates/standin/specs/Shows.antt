@@ -1,5 +1,4 @@
 -- What a whole device shows. Assumes nothing.
-use Prim.Native.Nat.{ℕ}
 use mathlib.Core.Bool.{cond}
 use lib.Dec.{eqb}
 use Rattle.rules.specs.declared.Options.{Options}

@@ -11,7 +11,7 @@ ghost use Rattle.rules.specs.declared.Phase.the-variants.{Silent};
 ghost use Rattle.rules.specs.declared.Task.the-variants.{Idle};
 ghost use Rattle.rules.specs.Chip.{Memory, small};
 ghost use Rattle.rules.specs.Options.{freshOptions};
-ghost use Rattle.rules.specs.StandIn.{Outcome, Powered, byteCall, powerOn, rest};
+ghost use Rattle.rules.specs.StandIn.{byteCall, powerOn, rest};
 ghost use Rattle.finder.specs.Lent.{memory};
 ghost use Rattle.engine.specs.View.{came};
 ghost use Rattle.standin.specs.Shows.{shows, poweredPhase};

@@ -6,7 +6,7 @@ use rules::Chip;
 ghost use mathlib.Core.Path.{_≡_};
 ghost use Rattle.finder.specs.Lent.{memory};
 ghost use Rattle.engine.specs.View.{view};
-ghost use Rattle.standin.specs.Feeding.{Feeding, feeding, fedInto};
+ghost use Rattle.standin.specs.Feeding.{feeding, fedInto};
 
 // The device after the bytes, how many bytes it answered or the first refusal, and how many bytes it took.
 pub struct Fed {

@@ -7,7 +7,7 @@ ghost use mathlib.Core.List.{_∷_, _++_};
 ghost use Rattle.rules.specs.Frame.{frame};
 ghost use Rattle.finder.specs.Lent.{memory};
 ghost use Rattle.engine.specs.View.{view};
-ghost use Rattle.standin.specs.Feeding.{Feeding, feeding, fedInto};
+ghost use Rattle.standin.specs.Feeding.{feeding, fedInto};
 ghost use Rattle.standin.specs.Opening.{speedBytes, openingBytes};
 
 // 9Ch and the ID: the body of its frame.

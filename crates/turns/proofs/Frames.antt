@@ -1,5 +1,5 @@
 -- The frames of a play: those of a step are 01's formula, also of the step that stops, and those of the whole are their sum. Assumes nothing.
-use mathlib.Core.Path.{_≡_, refl, sym, ap, _∙_}
+use mathlib.Core.Path.{_≡_, ap, _∙_}
 use mathlib.Core.Bool.{Bool, true, false, cond}
 use mathlib.Core.List.{List}
 use Prim.Native.Nat.{ℕ, zero, suc, _+_}
@@ -15,7 +15,7 @@ use Rattle.rules.specs.Sheet.{count, verdict, stepAt}
 use Rattle.rules.specs.Player.{reportOf}
 use Rattle.rules.specs.Meaning.{Done, Ended, ended, stepMeaning, meaningFrom, meaning}
 use Rattle.rules.specs.Run.{clean, Joined, Ran, stepRun, run, waits}
-use Rattle.turns.specs.Turns.{Sized, Fit, Begins, StepRuns, framesFrom}
+use Rattle.turns.specs.Turns.{Sized, Fit, Begins, framesFrom}
 use Rattle.turns.proofs.Steps.{step-ends}
 use Rattle.turns.proofs.Run.{run-means}
 

@@ -1,13 +1,13 @@
 -- The two flashes keep the chip's lengths, whatever bytes a stand-in is fed. Assumes nothing.
 use mathlib.Core.Path.{_≡_, refl, sym, _∙_}
-use mathlib.Core.Bool.{Bool, true, false, cond, not, _&&_}
+use mathlib.Core.Bool.{Bool, true, false, cond, _&&_}
 use mathlib.Core.List.{List, [], _∷_, _++_}
 use Prim.Native.Nat.{ℕ, _+_, _*_, _<_}
 use native.Mathlib.Omega.{arith}
-use lib.Dec.{ltb, leb, eqb}
+use lib.Dec.{leb, eqb}
 use lib.ListN.{length, drop, replicate, length-drop, length-replicate}
 use lib.Seq.{length-take-le}
-use borrow.Author.Tests.{eqb-true, eqb-false, leb-true, ltb-true, not-false}
+use borrow.Author.Tests.{eqb-true, eqb-false}
 use Rattle.rules.specs.declared.Chip.{Chip}
 use Rattle.rules.specs.declared.Flash.{Flash}
 use Rattle.rules.specs.declared.Flash.the-variants.{Code, Data}
@@ -19,9 +19,8 @@ use Rattle.rules.specs.declared.Phase.the-variants.{Mode, Speed, Ident, Command
 use Rattle.rules.specs.declared.Pages.{Pages}
 use Rattle.rules.specs.declared.Task.{Task}
 use Rattle.rules.specs.declared.Task.the-variants.{Idle, Programming, Verifying}
-use Rattle.rules.specs.declared.Fault.the-variants.{EndByte, Sum, Length}
 use Rattle.rules.specs.Chip.{Memory, flashOf, withFlash, flashSize, blockSize, blocks, pageSize, pages, blankByte, putPart, pageOf, eraseAddress}
-use Rattle.rules.specs.Frame.{bodySize, frameSize, lenOf, bodyOf, endOf, endDue, sumHolds, whole, statusByte, check, dataFault}
+use Rattle.rules.specs.Frame.{bodySize, frameSize, lenOf, bodyOf, whole, statusByte, dataFault}
 use Rattle.rules.specs.Command.{codeOf, sadOf, commandFault}
 use Rattle.rules.specs.StandIn.{State, Out, rest, startOf, effects, effectOf, onErase, erased, onCommand, lastPage, pageGuarded, pageFault, pageWritten, onPage, onCompare, ahead, taskNow, onTask, onFrame, receive, takes, step, feed}
 use Rattle.rules.proofs.Choices.{both}

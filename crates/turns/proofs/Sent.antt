@@ -6,7 +6,7 @@ use Prim.Native.Nat.{ℕ, suc, _+_, _*_, _/_, _%_, _<_, _≤_}
 use native.Mathlib.Omega.{arith}
 use lib.Dec.{eqb}
 use lib.ListN.{length}
-use borrow.Author.Tests.{eqb-true, eqb-false, eq-eqb, ne-eqb, le-leb}
+use borrow.Author.Tests.{eq-eqb, ne-eqb}
 use Rattle.rules.specs.declared.Chip.{Chip}
 use Rattle.rules.specs.declared.Flash.{Flash}
 use Rattle.rules.specs.declared.Flash.the-variants.{Code, Data}
@@ -24,9 +24,9 @@ use Rattle.rules.specs.declared.Task.{Task}
 use Rattle.rules.specs.declared.Task.the-variants.{Idle, Programming, Verifying}
 use Rattle.rules.specs.declared.Known.the-variants.{Row}
 use Rattle.rules.specs.declared.Fault.the-variants.{Well, Protected, PageNotBlank, Difference}
-use Rattle.rules.specs.Chip.{Memory, small, byteAt, addressBytes, total, start, blocks, blockSize, firstByte, lastByte, wordBytes, eraseBlock, bytesFrom, checksum, pageOf, putPage, blank, same, eraseAddress, range, nowhere, invalid}
+use Rattle.rules.specs.Chip.{Memory, small, addressBytes, start, blocks, blockSize, firstByte, lastByte, wordBytes, eraseBlock, bytesFrom, checksum, pageOf, putPage, blank, same, eraseAddress, range, nowhere, invalid}
 use Rattle.rules.specs.Options.{eraseProtected}
-use Rattle.rules.specs.Frame.{commandStart, dataStart, lastEnd, endDue, dataFault, statusByte, first, lenByte, sumByte, bodySize, frameSize, frame, one, pair, lenOf, bodyOf, endOf, sumHolds, whole}
+use Rattle.rules.specs.Frame.{commandStart, dataStart, lastEnd, endDue, dataFault, statusByte, first, lenByte, sumByte, frame, one, pair, lenOf, bodyOf, endOf, sumHolds}
 use Rattle.rules.specs.Command.{phaseNumber, rows, lookup, allowed, lenDue, codeOf, sadOf, eadOf, frameChecks, badParameter, idDiffers, notBlank, blockProtected, protected}
 use Rattle.rules.specs.StandIn.{State, Out, Fed, out, rest, startOf, taskNow, onFrame, onTask, onCommand, refused, effects, effectOf, onErase, erased, onProgramming, onVerify, onChecksum, pagesOf, summed, ahead, lastPage, later, pageGuarded, pageFault, pageWritten, onPage, compared, onCompare}
 use Rattle.rules.specs.Player.{command, pairCommand}

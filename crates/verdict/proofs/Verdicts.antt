@@ -15,8 +15,8 @@ use Rattle.rules.specs.declared.Phase.{Phase}
 use Rattle.rules.specs.declared.Fault.{Fault}
 use Rattle.rules.specs.declared.Fault.the-variants.{Well, EndByte, Sum, Code, Length, Parameter, Ident, NotBlank, Protected, PageNotBlank, Difference}
 use Rattle.rules.specs.Chip.{Memory}
-use Rattle.rules.specs.Frame.{lenOf, endOf, sumHolds, lastEnd, statusByte, Check, check, first}
-use Rattle.rules.specs.Command.{rows, lookup, allowed, lenDue, codeOf, frameChecks, commandChecks, commandFault, badParameter, idDiffers, notBlank, protected}
+use Rattle.rules.specs.Frame.{lenOf, statusByte, Check, first}
+use Rattle.rules.specs.Command.{rows, lookup, allowed, lenDue, codeOf, frameChecks, commandChecks, commandFault}
 
 -- the row of 06h is the only one that has it
 pub well-byte : (v : Fault) → statusByte v ≡ 0x06 → v ≡ Well

@@ -1,8 +1,8 @@
 -- Frames in lent buffers. Assumes nothing.
 use Prim.Native.Nat.{ℕ, _+_}
-use mathlib.Core.Bool.{Bool, true, false, cond, _&&_}
-use mathlib.Core.List.{List, [], _++_}
-use lib.Dec.{ltb, leb, eqb}
+use mathlib.Core.Bool.{cond, _&&_}
+use mathlib.Core.List.{List, _++_}
+use lib.Dec.{leb}
 use lib.ListN.{length, take}
 use Rattle.rules.specs.Chip.{over}
 use Rattle.rules.specs.Frame.{dataStart, lastEnd, lenOf, frameSize, frame, one}

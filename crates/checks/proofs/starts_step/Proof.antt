@@ -1,10 +1,8 @@
 -- `checks::starts_step` meets its contract, test by test. Assumes nothing.
-use mathlib.Core.Path.{_≡_, sym, ap, _∙_}
-use mathlib.Core.Bool.{true, false}
+use mathlib.Core.Path.{sym, ap, _∙_}
 use native.Mathlib.Omega.{arith}
-use borrow.Author.Tests.{eq-eqb, ne-eqb, not-true, not-false}
+use borrow.Author.Tests.{not-true, not-false}
 use Rattle.rules.specs.Run.{mostFrames}
-use Rattle.checks.specs.Checks.{startsStep}
 use Rattle.checks.proofs.Starting.{not-ready, not-at-0, by-frames}
 use borrow.Author.Needs.{needs}
 use Rattle.checks.proofs.starts_step.Statement.{statement}

@@ -1,11 +1,9 @@
 -- `checks::waits` meets its contract, test by test. Assumes nothing.
 use mathlib.Core.Path.{_≡_, sym, ap, _∙_}
-use mathlib.Core.Bool.{true, false}
 use Prim.Native.Nat.{ℕ}
 use native.Mathlib.Omega.{arith}
 use lib.Dec.{eqb}
 use borrow.Author.Tests.{not-true, not-false}
-use Rattle.rules.specs.declared.Task.{Task}
 use Rattle.rules.specs.StandIn.{taskNow, received}
 use Rattle.rules.specs.Run.{waits}
 use Rattle.checks.specs.Checks.{isIdle}

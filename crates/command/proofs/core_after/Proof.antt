@@ -1,7 +1,7 @@
 -- `command::core_after` meets its contract. Assumes nothing.
 use denote.Ref.{now}
 use Prim.Native.Nat.{ℕ}
-use mathlib.Core.Path.{_≡_, refl, sym, ap, _∙_}
+use mathlib.Core.Path.{refl, sym, ap, _∙_}
 use Rattle.rules.specs.declared.Options.{Options}
 use Rattle.rules.specs.declared.Address.{Address}
 use Rattle.rules.specs.declared.Pages.{Pages}
@@ -13,7 +13,6 @@ use Rattle.rules.specs.Chip.{wordAt, addressAt, range}
 use Rattle.rules.specs.Options.{IFPR, windowSet}
 use Rattle.rules.specs.StandIn.{pagesOf}
 use Rattle.device.specs.declared.Core.{Core}
-use Rattle.rules.specs.Command.{codeOf}
 use Rattle.command.proofs.Results.{verify, programming, speed, ident, security, silenced, released, window, settled-as, stayed}
 use borrow.Author.Needs.{needs}
 use Rattle.command.proofs.core_after.Statement.{statement}

@@ -1,5 +1,5 @@
 -- `command::flash_after` meets its contract. Assumes nothing.
-use mathlib.Core.Path.{_≡_, refl, sym, ap, _∙_}
+use mathlib.Core.Path.{sym, ap, _∙_}
 use denote.Ref.{now}
 use Rattle.rules.specs.declared.Address.{Address}
 use Rattle.rules.specs.Chip.{eraseAddress}

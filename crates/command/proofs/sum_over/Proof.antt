@@ -1,5 +1,4 @@
 -- `command::sum_over` meets its contract. Assumes nothing.
-use mathlib.Core.Path.{_≡_, refl, sym, ap, _∙_}
 use denote.Ref.{now}
 use Rattle.finder.specs.Lent.{memory}
 use Rattle.command.proofs.Results.{summed-did, summed-not}

@@ -1,12 +1,10 @@
 -- `engine::begin` meets its contract. Assumes nothing.
-use Prim.Native.Nat.{ℕ}
-use mathlib.Core.Path.{_≡_, refl, sym, ap, _∙_}
-use mathlib.Core.List.{List, [], _∷_}
+use mathlib.Core.Path.{refl, sym, ap, _∙_}
+use mathlib.Core.List.{[], _∷_}
 use native.Mathlib.Omega.{arith}
 use denote.Ref.{now}
-use Rattle.rules.specs.Chip.{Memory}
-use Rattle.rules.specs.StandIn.{Out, answered, holding, startOf, taskNow, received}
-use Rattle.engine.specs.View.{view, came, holds}
+use Rattle.rules.specs.StandIn.{startOf}
+use Rattle.engine.specs.View.{view, holds}
 use Rattle.engine.proofs.Receives.{skipped, begun, held-as, first-got, none-got}
 use borrow.Author.Needs.{needs}
 use Rattle.engine.proofs.begin.Statement.{statement}

@@ -1,9 +1,5 @@
 -- `engine::held` meets its contract. Assumes nothing.
-use Prim.Native.Nat.{ℕ}
-use mathlib.Core.Path.{_≡_, refl, sym, ap, _∙_}
-use mathlib.Core.List.{List, [], _∷_}
 use native.Mathlib.Omega.{arith}
-use denote.Ref.{now}
 use Rattle.engine.proofs.Receives.{held-small, held-more, held-none}
 use borrow.Author.Needs.{needs}
 use Rattle.engine.proofs.held.Statement.{statement}

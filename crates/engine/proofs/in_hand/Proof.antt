@@ -1,6 +1,4 @@
 -- `engine::in_hand` meets its contract. Assumes nothing.
-use mathlib.Core.Path.{_≡_}
-use Prim.Native.Nat.{_<_, _≤_}
 use native.Mathlib.Omega.{arith}
 use denote.Ref.{now}
 use Rattle.engine.proofs.Receives.{none-got, held-none, held-is}

@@ -2,7 +2,6 @@
 use mathlib.Core.Path.{_≡_, ap}
 use Prim.Native.Nat.{ℕ, _+_, _*_}
 use native.Mathlib.Omega.{arith}
-use Rattle.rules.specs.declared.Address.{Address}
 use Rattle.rules.specs.Chip.{wordAt, addressAt}
 use borrow.Author.Needs.{needs}
 use Rattle.entries.proofs.whole_entry.Statement.{statement}

@@ -1,9 +1,8 @@
 -- `giving::emit` meets its contract: no room, lost, or the frame by its stage. Assumes nothing.
 use mathlib.Core.Path.{_≡_, sym, ap, _∙_}
-use mathlib.Core.Bool.{Bool}
 use native.Mathlib.Omega.{arith}
 use Rattle.rules.specs.declared.Step.{Step}
-use Rattle.rules.specs.Player.{lost, lostIn}
+use Rattle.rules.specs.Player.{lost}
 use Rattle.giving.specs.Giving.{givesBy}
 use Rattle.giving.proofs.Gives.{no-room, gives-lost, gives-in}
 use borrow.Author.Needs.{needs}

@@ -1,5 +1,5 @@
 -- `protect::page_in_boot_cluster`: the page's number against the cluster's pages. Assumes nothing.
-use mathlib.Core.Path.{_≡_, ap, _∙_}
+use mathlib.Core.Path.{ap, _∙_}
 use Prim.Native.Nat.{ℕ}
 use lib.Dec.{ltb}
 use borrow.Author.Needs.{needs}

@@ -2,8 +2,6 @@
 use mathlib.Core.Path.{_≡_, sym}
 use Prim.Native.Nat.{_+_, _-_}
 use native.Mathlib.Omega.{arith}
-use lib.ListN.{take, drop}
-use Rattle.rules.specs.Chip.{byteAt, total}
 use Rattle.replies.proofs.Framing.{other-length, other-start, other-len, other-sum, by-end}
 use borrow.Author.Needs.{needs}
 use Rattle.replies.proofs.is_framed.Statement.{statement}

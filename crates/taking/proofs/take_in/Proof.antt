@@ -1,5 +1,5 @@
 -- `taking::take_in` meets its contract. Assumes nothing.
-use mathlib.Core.Path.{_≡_, sym, ap, _∙_}
+use mathlib.Core.Path.{_≡_, sym, _∙_}
 use Rattle.rules.specs.Player.{lost}
 use Rattle.taking.specs.Taking.{takesIn}
 use borrow.Author.Needs.{needs}

@@ -1,5 +1,5 @@
 -- `engine::frames::on_frame` meets its contract. Assumes nothing.
-use mathlib.Core.Path.{_≡_, refl, sym, ap, _∙_}
+use mathlib.Core.Path.{ap, _∙_}
 use denote.Ref.{now}
 use Rattle.rules.specs.StandIn.{Out, answered}
 use Rattle.finder.specs.Lent.{memory}

@@ -1,10 +1,9 @@
 -- `line::turn::turn` meets its contract: its parts one after the other are a turn. Assumes nothing.
-use mathlib.Core.Path.{_≡_, sym, ap, _∙_}
+use mathlib.Core.Path.{_≡_, ap, _∙_}
 use mathlib.Core.List.{List}
 use Prim.Native.Nat.{ℕ}
-use lib.ListN.{length, take}
-use Rattle.rules.specs.Player.{absorbs}
-use Rattle.standin.specs.Feeding.{feeding, fedInto}
+use lib.ListN.{length}
+use Rattle.standin.specs.Feeding.{fedInto}
 use Rattle.taking.specs.Taking.{takesIn}
 use Rattle.line.proofs.Turning.{turn-made}
 use borrow.Author.Needs.{needs}

@@ -3,7 +3,6 @@ use mathlib.Core.Path.{_≡_, sym, _∙_}
 use lib.ListN.{length}
 use Rattle.rules.specs.declared.Verdict.the-variants.{Accepted}
 use Rattle.rules.specs.Sheet.{verdict}
-use Rattle.rules.specs.Player.{lost}
 use Rattle.player.proofs.Refusals.{refused-J, refused-P1, refused-P2, call-parts}
 use borrow.Author.Needs.{needs}
 use Rattle.player.proofs.call.next.Statement.{statement}

@@ -4,7 +4,6 @@ use Prim.Native.Nat.{ℕ}
 use native.Mathlib.Omega.{arith}
 use Rattle.rules.specs.Chip.{invalid}
 use Rattle.rules.specs.Sheet.{rangeAt}
-use Rattle.entries.specs.Entry.{entryIn}
 use Rattle.entries.proofs.Fields.{Says, says}
 use Rattle.sheet.proofs.Verdicts.{kind-under, kind-over, zero-broken, pair-broken, offset-broken, body-broken, entry-allowed}
 use borrow.Author.Needs.{needs}

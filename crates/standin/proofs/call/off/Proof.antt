@@ -1,5 +1,5 @@
 -- `standin::call::off`: nothing received, and a fresh chip's options. Assumes nothing.
-use mathlib.Core.Path.{_≡_, ap}
+use mathlib.Core.Path.{ap}
 use borrow.Author.Needs.{needs}
 use Rattle.rules.specs.declared.Options.{Options}
 use Rattle.rules.specs.declared.Phase.the-variants.{Silent}

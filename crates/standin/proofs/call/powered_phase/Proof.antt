@@ -1,5 +1,5 @@
 -- `standin::call::powered_phase` meets its contract. Assumes nothing.
-use mathlib.Core.Path.{_≡_, sym, _∙_}
+use mathlib.Core.Path.{sym, _∙_}
 use borrow.Author.Tests.{eq-eqb, ne-eqb}
 use borrow.Author.Needs.{needs}
 use Rattle.standin.proofs.call.powered_phase.Statement.{statement}

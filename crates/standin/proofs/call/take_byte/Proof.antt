@@ -1,5 +1,5 @@
 -- `standin::call::take_byte` meets its contract. Assumes nothing.
-use mathlib.Core.Path.{_≡_, refl, sym, ap, _∙_}
+use mathlib.Core.Path.{ap, _∙_}
 use denote.Ref.{now}
 use Rattle.rules.specs.declared.Chip.{Chip}
 use Rattle.rules.specs.StandIn.{byteCall}

@@ -39,6 +39,14 @@ static size mixed(size sum, size number)
     return sum % 0x10000000000 * 31 + number % 65536;
 }
 
+// A refusal by its letter and number: 1 to 10 is J1 to J10, 11 and 12 are P1 and P2, 13 to 15 are D1 to D3.
+static size named(size refusal)
+{
+    if (refusal <= 10)
+        return 'J' * 256 + refusal;
+    return refusal <= 12 ? 'P' * 256 + refusal - 10 : 'D' * 256 + refusal - 12;
+}
+
 #ifndef PLAY
 static size less_of(size a, size b)
 {
@@ -696,7 +704,7 @@ size plain_engine(const u8 *bytes, size n, size start, size shown, u8 *held, u8 
     for (size i = 0; i < n; i++) {
         int answered = take(&d, bytes[i], held, code, code_n, data, data_n, reply, reply_n);
         if (answered < 0)
-            sum = mixed(sum, 0x1000 + 12 - answered);
+            sum = mixed(sum, named(12 - answered));
         else if (answered > 0)
             sum = mixed_bytes(mixed(sum, answered), reply, less_of(answered, shown));
     }
@@ -765,7 +773,7 @@ size plain_player(const u8 *sheet, size sheet_n, const u8 *replies, size replies
             reply_n = left == 1 ? replies_n - 33 : 11;
         }
         long n = next(sheet, sheet_n, &p, reply, reply_n, frame, frame_n, sums, sums_n);
-        sum = reported(mixed(sum, n < 0 ? 0x1000 - n : n), report_of(&p));
+        sum = reported(mixed(sum, n < 0 ? named(-n) : (size)n), report_of(&p));
         if (n > 0)
             sum = mixed_bytes(sum, frame, less_of(n, shown));
         if (left > 0)
@@ -792,7 +800,7 @@ size plain_play(const u8 *sheet, size sheet_n, u8 *held, u8 *code, size code_n, 
     if (!refusal && reply_n < 16)
         refusal = 15;
     if (refusal)
-        return mixed(0, 0x1000 + refusal);
+        return mixed(0, named(refusal));
     absorb(sheet, &p, reply, 0, sums);
     while ((n = emit(sheet, &p, frame)) != 0) {
         heard = 0;

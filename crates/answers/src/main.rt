@@ -1,9 +1,9 @@
 // The stand-in by itself: reads a script of text lines from standard input and writes what the chip answers.
 mod run;
 
-use script::echo;
-use text::lines;
-use text::part;
+use text_lines::lines;
+use text_lines::part;
+use text_script::echo;
 
 // Reads the input to its end, or until the room is full; how many bytes there are.
 fn read(input: &mut [u8]) -> usize {

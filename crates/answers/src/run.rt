@@ -1,15 +1,15 @@
 // A whole script: its lines one after the other, up to its end or the first bad one.
-use script::chip;
-use script::chip::State;
-use script::script_line;
-use script::script_line::Line;
-use script::show;
-use text::in_hand;
-use text::in_hand::InHand;
-use text::lines::bad_line;
-use text::lines::line_length;
-use text::lines::room_for_bytes;
-use text::part;
+use text_lines::in_hand;
+use text_lines::in_hand::InHand;
+use text_lines::lines::bad_line;
+use text_lines::lines::line_length;
+use text_lines::lines::room_for_bytes;
+use text_lines::part;
+use text_script::chip;
+use text_script::chip::State;
+use text_script::script_line;
+use text_script::script_line::Line;
+use text_script::show;
 
 // What stands between two lines.
 struct Between {
@@ -28,12 +28,12 @@ fn is_bad(said: Line) -> bool {
 fn play(
     chip: State,
     sheet: &[u8],
-    frame: &mut [u8; 260],
+    held: &mut [u8; 260],
     code: &mut [u8],
     data: &mut [u8],
 ) -> State {
     let c = chip.core;
-    let core = printout::play(sheet, c, frame, code, data);
+    let core = text_play::play(sheet, c, held, code, data);
     State {
         on: chip.on,
         core: core,
@@ -46,7 +46,7 @@ fn act(
     text: &[u8],
     chip: State,
     sheet: &[u8],
-    frame: &mut [u8; 260],
+    held: &mut [u8; 260],
     code: &mut [u8],
     data: &mut [u8],
 ) -> State {
@@ -67,13 +67,13 @@ fn act(
             chip,
             text,
             part::rest(text, script_line::SENT),
-            frame,
+            held,
             code,
             data,
         ),
         Line::Show => show::all(chip, &*code, &*data),
         Line::Sheet => chip,
-        Line::Play => play(chip, sheet, frame, code, data),
+        Line::Play => play(chip, sheet, held, code, data),
     }
 }
 
@@ -83,25 +83,25 @@ fn run(
     text: &[u8],
     b: Between,
     sheet: &mut [u8],
-    frame: &mut [u8; 260],
+    held: &mut [u8; 260],
     code: &mut [u8],
     data: &mut [u8],
 ) -> Between {
     let before = b.sheet;
-    let held = in_hand::after(before, text, sheet);
+    let put = in_hand::after(before, text, sheet);
     let chip = b.chip;
     let after = act(
         said,
         text,
         chip,
-        in_hand::bytes(held, &*sheet),
-        frame,
+        in_hand::bytes(put, &*sheet),
+        held,
         code,
         data,
     );
     Between {
         chip: after,
-        sheet: held,
+        sheet: put,
     }
 }
 
@@ -109,7 +109,7 @@ fn run(
 fn lines(
     text: &[u8],
     sheet: &mut [u8],
-    frame: &mut [u8; 260],
+    held: &mut [u8; 260],
     code: &mut [u8],
     data: &mut [u8],
 ) -> usize {
@@ -130,7 +130,7 @@ fn lines(
         if is_bad(said) {
             return number;
         }
-        b = run(said, line, b, sheet, frame, code, data);
+        b = run(said, line, b, sheet, held, code, data);
         at = end + 1;
     }
     0
@@ -141,6 +141,6 @@ pub fn script(text: &[u8]) {
     let mut sheet = room_for_bytes();
     let mut code = [0u8; 32768];
     let mut data = [0u8; 2048];
-    let mut frame = [0u8; 260];
-    bad_line(lines(text, &mut sheet, &mut frame, &mut code, &mut data));
+    let mut held = [0u8; 260];
+    bad_line(lines(text, &mut sheet, &mut held, &mut code, &mut data));
 }

@@ -1,5 +1,5 @@
 // Decimal numbers of up to three digits, without leading zeros.
-use text::hex;
+use text_lines::hex;
 
 pub enum Number {
     Value(usize),

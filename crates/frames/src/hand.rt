@@ -1,10 +1,10 @@
 // What the player is called with: the sheet in hand, the sizes of what is lent, and its record.
 use crate::show;
 use rules::Player;
-use text::hex;
-use text::in_hand;
-use text::in_hand::InHand;
-use text::part;
+use text_lines::hex;
+use text_lines::in_hand;
+use text_lines::in_hand::InHand;
+use text_lines::part;
 ghost use Prim.Native.Nat.{_≤_};
 
 // Between two lines: the sheet, and how many entries and bytes are lent. Until a play has begun the record is that of a
@@ -24,7 +24,7 @@ pub fn empty() -> Hand {
         sums: 64,
         room: 260,
         begun: false,
-        player: taking::new_player(),
+        player: player_absorb::new_player(),
     }
 }
 
@@ -53,7 +53,7 @@ pub fn lend_room(h: Hand, n: usize) -> Hand {
 pub fn begin(h: Hand) -> Hand {
     let mut h = h;
     h.begun = true;
-    h.player = taking::new_player();
+    h.player = player_absorb::new_player();
     h
 }
 
@@ -68,7 +68,7 @@ fn least(a: usize, b: usize) -> usize
 
 // The player's call; what it answers is written.
 fn next(p: Player, sheet: &[u8], reply: &[u8], frame: &mut [u8], sums: &mut [u16]) -> Player {
-    let chip = finder::small();
+    let chip = chip_finder::small();
     let c = player::call::next(chip, sheet, p, reply, frame, sums);
     let next = c.next;
     let report = c.report;

@@ -5,8 +5,8 @@ mod run;
 mod script_line;
 mod show;
 
-use text::lines;
-use text::part;
+use text_lines::lines;
+use text_lines::part;
 
 fn main() {
     let mut input = lines::room();

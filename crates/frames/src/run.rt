@@ -3,11 +3,11 @@ use crate::hand;
 use crate::hand::Hand;
 use crate::script_line;
 use crate::script_line::Line;
-use text::in_hand;
-use text::lines::bad_line;
-use text::lines::line_length;
-use text::lines::room_for_bytes;
-use text::part;
+use text_lines::in_hand;
+use text_lines::lines::bad_line;
+use text_lines::lines::line_length;
+use text_lines::lines::room_for_bytes;
+use text_lines::part;
 
 fn is_bad(said: Line) -> bool {
     match said {

@@ -1,10 +1,10 @@
 // What a line of the script says.
 use crate::decimal;
 use crate::decimal::Number;
-use text::hex;
-use text::in_hand;
-use text::part;
-use text::part::starts_with;
+use text_lines::hex;
+use text_lines::in_hand;
+use text_lines::part;
+use text_lines::part::starts_with;
 
 pub enum Line {
     Bad,
@@ -46,7 +46,7 @@ fn room_line(text: &[u8]) -> Line {
 
 // `< HH HH ..`, or `<` alone for an empty reply.
 fn reply_line(text: &[u8]) -> Line {
-    if spans::same_bytes(text, b"<") {
+    if octets::same_bytes(text, b"<") {
         return Line::Reply;
     }
     if starts_with(text, b"< ") {
@@ -66,7 +66,7 @@ pub fn parse(text: &[u8], begun: bool) -> Line {
     if starts_with(text, b"room ") {
         return room_line(text);
     }
-    if spans::same_bytes(text, b"go") {
+    if octets::same_bytes(text, b"go") {
         return Line::Go;
     }
     if starts_with(text, b"go ") {

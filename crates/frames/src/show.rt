@@ -1,9 +1,9 @@
 // What a call writes: the frame, the report with the list of sums, or the refusal.
 use rules::Next;
 use rules::Report;
-use text::output;
-use text::part;
-use text::told;
+use text_lines::output;
+use text_lines::part;
+use text_lines::told;
 
 // `> HH HH ..`: the line has room for a frame buffer of 300 bytes.
 fn frame_line(frame: &[u8]) {

@@ -5,28 +5,28 @@ use input::Input;
 use standin::call::off;
 use standin::call::power_on;
 use standin::opening::open;
-use text::part;
+use text_lines::part;
 
 // The sheet played to a fresh chip that was powered on and opened.
 fn play(sheet: &[u8]) {
-    let chip = finder::small();
+    let chip = chip_finder::small();
     let mut code = [0xFFu8; 32768];
     let mut data = [0xFFu8; 2048];
     let mut answers = [0u8; 32];
-    let powered = power_on(off(), options::fresh(), &code, &data);
+    let powered = power_on(off(chip), chip_options::read::fresh(), &code, &data);
     let mut device = powered.device;
     let core = device.core;
     let opened = open(
         chip,
         core,
         &[0xFF; 10],
-        &mut device.frame,
+        &mut device.held,
         &mut code,
         &mut data,
         &mut answers,
     );
     let waiting = opened.core;
-    printout::play(sheet, waiting, &mut device.frame, &mut code, &mut data);
+    text_play::play(sheet, waiting, &mut device.held, &mut code, &mut data);
 }
 
 fn main() {

@@ -4,12 +4,12 @@ use mathlib.Core.List.{List}
 use Prim.Native.Nat.{ℕ}
 use Rattle.rules.specs.Player as rules
 use Rattle.player.specs.declared.call.Called.{Called}
-use Rattle.player.specs.Calls.{came}
+use Rattle.player.specs.Calls.{calledAs}
 
 -- a player call
 pub one-call : (due : rules.Called) (a b : Called) (x y : List ℕ) (u v : List ℕ)
-    → came a x u ≡ due
-    → came b y v ≡ due
+    → calledAs a x u ≡ due
+    → calledAs b y v ≡ due
     → (a .player ≡ b .player) × (a .next ≡ b .next) × (a .report ≡ b .report) × (x ≡ y) × (u ≡ v)
 one-call due a b x y u v p q =
     let e = p ∙ sym q in (

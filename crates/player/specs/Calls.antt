@@ -5,6 +5,6 @@ use Rattle.rules.specs.Player as rules
 use Rattle.player.specs.declared.call.Called.{Called}
 
 -- the parts of a call as one record of the definitions
-abbrev pub came : Called → List ℕ → List ℕ → rules.Called
-came c buffer sums =
+abbrev pub calledAs : Called → List ℕ → List ℕ → rules.Called
+calledAs c buffer sums =
     record { player = c .player; call = c .next; report = c .report; frame = buffer; sums = sums }

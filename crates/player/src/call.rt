@@ -1,20 +1,21 @@
 // A player call: the reply is taken in, the next frame given.
 use crate::report::report;
-use giving::emit;
+use player_absorb::absorb_or_lost;
+use player_emit::emit;
 use rules::Chip;
+use rules::FRAME_ROOM;
 use rules::Next;
 use rules::Player;
 use rules::Refusal;
 use rules::Report;
 use rules::Verdict;
 use sheet::judge::verdict;
-use taking::take_in;
 ghost use mathlib.Core.Path.{_≡_};
 ghost use mathlib.Core.Bool.{cond};
 ghost use lib.Dec.{eqb};
 ghost use Rattle.rules.specs.declared.Next.the-variants.{Refused, Frame, End};
 ghost use Rattle.rules.specs.Player.{reportOf, called};
-ghost use Rattle.player.specs.Calls.{came};
+ghost use Rattle.player.specs.Calls.{calledAs};
 
 // The record after a call, what the call answered, and the report.
 pub struct Called {
@@ -52,15 +53,15 @@ pub fn next(
     frame: &mut [u8],
     sums: &mut [u16],
 ) -> Called
-    ensures { λ r. ⌜ came r (now (frame .exit)) (now (sums .exit)) ≡ called chip (now (sheet .entry)) p (now (reply .entry)) (now (frame .entry)) (now (sums .entry)) ⌝ }
+    ensures { λ r. ⌜ calledAs r (now (frame .exit)) (now (sums .exit)) ≡ called chip (now (sheet .entry)) p (now (reply .entry)) (now (frame .entry)) (now (sums .entry)) ⌝ }
 {
     if let Verdict::Refused(refusal) = verdict(chip, sheet, sums.len()) {
         return stands(p, refusal);
     }
-    if frame.len() < 260 {
+    if frame.len() < FRAME_ROOM {
         return stands(p, Refusal::P1);
     }
-    let took = take_in(chip, sheet, p, reply, sums);
+    let took = absorb_or_lost(chip, sheet, p, reply, sums);
     if took.lost {
         return stands(p, Refusal::P2);
     }

@@ -1,16 +1,31 @@
--- Laws of tests: a conjunction's parts, and one choice before another. Assumes nothing.
+-- Laws of tests: what follows of both, of either and of five at once, and one choice before another. Assumes nothing.
 use mathlib.Core.Path.{_≡_, refl, sym}
-use mathlib.Core.Bool.{Bool, true, false, cond, _&&_}
+use mathlib.Core.Bool.{Bool, true, false, cond, _&&_, _||_, false≢true}
 use mathlib.Core.Logic.{_⊎_, inl, inr}
-use native.Mathlib.Omega.{arith}
-use Prim.Native.Nat.{ℕ}
-
-pub apart : {A : Type 0} → true ≡ false → A
-apart e = absurd (let z : _≡_ {A = ℕ} 0 1 = cc in omega arith)
 
 pub both : (a b : Bool) → (a && b) ≡ true → (a ≡ true) × (b ≡ true)
 both true b e = (refl, e)
-both false b e = apart (sym e)
+both false b e = absurd (false≢true e)
+
+pub and-false : (b : Bool) → (b && false) ≡ false
+and-false true = refl
+and-false false = refl
+
+pub neither : (a b : Bool) → (a || b) ≡ false → (a ≡ false) × (b ≡ false)
+neither true b e = absurd (false≢true (sym e))
+neither false b e = (refl, e)
+
+pub or-true : (b : Bool) → (b || true) ≡ true
+or-true true = refl
+or-true false = refl
+
+pub each-of-five : (a b c d e : Bool) → (a && b && c && d && e) ≡ true
+    → (a ≡ true) × (b ≡ true) × (c ≡ true) × (d ≡ true) × (e ≡ true)
+each-of-five true true true true e h = (refl, refl, refl, refl, h)
+each-of-five true true true false e h = absurd (false≢true h)
+each-of-five true true false d e h = absurd (false≢true h)
+each-of-five true false c d e h = absurd (false≢true h)
+each-of-five false b c d e h = absurd (false≢true h)
 
 -- five tests of which the second goes with the fourth and the third with the last
 pub none-left : (o w v b e : Bool) → (w && b) ≡ false → (o && w && v && b && e) ≡ false
@@ -18,7 +33,7 @@ none-left false w v b e h = refl
 none-left true false v b e h = refl
 none-left true true false b e h = refl
 none-left true true true false e h = refl
-none-left true true true true e h = apart h
+none-left true true true true e h = absurd (false≢true (sym h))
 
 pub none-right : (o w v b e : Bool) → (v && e) ≡ false → (o && w && v && b && e) ≡ false
 none-right false w v b e h = refl
@@ -34,10 +49,10 @@ all-five true true false b e p q r = r
 all-five true false v b e p q r = q
 all-five false w v b e p q r = p
 
-pub first-third : (o w v b e : Bool) → (o && w && v && b && e) ≡ true → (o ≡ true) × (v ≡ true)
-first-third o w v b e h =
-    let p = both (o && w) v (both (o && w && v) b (both (o && w && v && b) e h .0) .0) in
-    (both o w (p .0) .0, p .1)
+-- what holds of both arms holds of the one taken
+pub chosen : {A : Type 0} (P : A → Type 0) (t : Bool) (a b : A) → (t ≡ true → P a) → P b → P (cond t a b)
+chosen P true a b p q = p refl
+chosen P false a b p q = q
 
 module _ {A : Type 0} where
   pub either : (t : Bool) (y : A) → cond t y y ≡ y

@@ -1,4 +1,5 @@
 pub mod Bytes
 pub mod Choices
+pub mod First
 pub mod Sheet
 pub mod Trials

@@ -10,7 +10,8 @@ use Rattle.rules.specs.declared.Chip.{Chip}
 use Rattle.rules.specs.declared.Refusal.{Refusal}
 use Rattle.rules.specs.declared.Verdict.{Verdict}
 use Rattle.rules.specs.declared.Verdict.the-variants.{Accepted, Refused}
-use Rattle.rules.specs.Sheet.{count, J1, J2, J3, J4, J5, J6, J7, J8, J9, J10, firstBroken, andThen, headVerdict, entryVerdict, entriesVerdict, tailVerdict, verdict}
+use Rattle.rules.specs.First.{andThen, first}
+use Rattle.rules.specs.Sheet.{count, J1, J2, J3, J4, J5, J6, J7, J8, J9, J10, headVerdict, entryVerdict, entriesVerdict, sheetVerdict, verdict}
 
 -- no rule of an entry is broken
 pub record EntryAllowed (chip : Chip) (s : List ℕ) (i : ℕ) : Type 0 where
@@ -20,30 +21,34 @@ pub record EntryAllowed (chip : Chip) (s : List ℕ) (i : ℕ) : Type 0 where
   pub j7 : J7 s i ≡ false
   pub j8 : J8 s i ≡ false
 
--- no rule of a sheet is broken
-pub record Allowed (chip : Chip) (s : List ℕ) (room : ℕ) : Type 0 where
+-- no rule of the sheet itself is broken
+pub record SheetAllowed (chip : Chip) (s : List ℕ) : Type 0 where
   pub j1 : J1 s ≡ false
   pub j2 : J2 s ≡ false
   pub j3 : J3 s ≡ false
   pub entries : (i : ℕ) → i < count s → EntryAllowed chip s i
   pub j9 : J9 s ≡ false
+
+-- nor that of the room for its sums
+pub record Allowed (chip : Chip) (s : List ℕ) (room : ℕ) : Type 0 where
+  pub sheet : SheetAllowed chip s
   pub j10 : J10 s room ≡ false
 
 -- a rule and those behind it
 pub refused≢accepted : (n : Refusal) → Refused n ≡ Accepted → ⊥
 refused≢accepted n e = let z : _≡_ {A = ℕ} 0 1 = cc in omega arith
 
-unbroken : (b : Bool) (n : Refusal) (v : Verdict) → cond b (Refused n) v ≡ Accepted → (b ≡ false) × (v ≡ Accepted)
+pub unbroken : (b : Bool) (n : Refusal) (v : Verdict) → cond b (Refused n) v ≡ Accepted → (b ≡ false) × (v ≡ Accepted)
 unbroken true n v e = absurd (refused≢accepted n e)
 unbroken false n v e = (refl, e)
 
-both : (a b : Verdict) → andThen a b ≡ Accepted → (a ≡ Accepted) × (b ≡ Accepted)
+pub both : (a b : Verdict) → andThen a b ≡ Accepted → (a ≡ Accepted) × (b ≡ Accepted)
 both Accepted b e = (refl, e)
 both (Refused n) b e = absurd (refused≢accepted n e)
 
 -- an entry
 entry-allowed : (chip : Chip) (s : List ℕ) (i : ℕ) → entryVerdict chip s i ≡ Accepted → EntryAllowed chip s i
-unfolding entryVerdict firstBroken
+unfolding entryVerdict first
 entry-allowed chip s i e =
     let a = unbroken (J4 s i) _ _ e in
     let b = unbroken (J5 s i) _ _ (a .1) in
@@ -53,7 +58,7 @@ entry-allowed chip s i e =
     record { j4 = a .0; j5 = b .0; j6 = c .0; j7 = d .0; j8 = f .0 }
 
 pub entry-accepted : (chip : Chip) (s : List ℕ) (i : ℕ) → EntryAllowed chip s i → entryVerdict chip s i ≡ Accepted
-unfolding entryVerdict firstBroken
+unfolding entryVerdict first
 entry-accepted chip s i a = rw (a .j4, a .j5, a .j6, a .j7, a .j8)
 
 -- the entries from i on
@@ -80,29 +85,43 @@ entries-accepted chip s i (suc left) h =
     rw (entry-accepted chip s i (h i (omega arith) (omega arith)))
     (entries-accepted chip s (i + 1) left (λ k a b. h k (omega arith) (omega arith)))
 
--- THE LAW
-pub accepted-allowed : (chip : Chip) (s : List ℕ) (room : ℕ) → verdict chip s room ≡ Accepted → Allowed chip s room
-unfolding verdict headVerdict tailVerdict firstBroken
-accepted-allowed chip s room e =
-    let h = both (headVerdict s) _ e in
-    let t = both (entriesVerdict chip s 0 (count s)) _ (h .1) in
-    let a = unbroken (J1 s) _ _ (h .0) in
-    let b = unbroken (J2 s) _ _ (a .1) in
-    let c = unbroken (J3 s) _ _ (b .1) in
-    let y = unbroken (J9 s) _ _ (t .1) in
-    let z = unbroken (J10 s room) _ _ (y .1) in
-    record {
-      j1 = a .0;
-      j2 = b .0;
-      j3 = c .0;
-      entries = λ i l. entries-allowed chip s 0 (count s) (t .0) i (omega arith) (omega arith);
-      j9 = y .0;
-      j10 = z .0;
-    }
+-- the sheet itself
+module _ (chip : Chip) (s : List ℕ) where
+  pub sheet-allowed : sheetVerdict chip s ≡ Accepted → SheetAllowed chip s
+  unfolding sheetVerdict headVerdict first
+  sheet-allowed e =
+      let h = both (headVerdict s) _ e in
+      let t = both (entriesVerdict chip s 0 (count s)) _ (h .1) in
+      let a = unbroken (J1 s) _ _ (h .0) in
+      let b = unbroken (J2 s) _ _ (a .1) in
+      let c = unbroken (J3 s) _ _ (b .1) in
+      record {
+        j1 = a .0;
+        j2 = b .0;
+        j3 = c .0;
+        entries = λ i l. entries-allowed chip s 0 (count s) (t .0) i (omega arith) (omega arith);
+        j9 = unbroken (J9 s) _ _ (t .1) .0;
+      }
 
-pub allowed-accepted : (chip : Chip) (s : List ℕ) (room : ℕ) → Allowed chip s room → verdict chip s room ≡ Accepted
-unfolding verdict headVerdict tailVerdict firstBroken
-allowed-accepted chip s room a =
-    let l : entriesVerdict chip s 0 (count s) ≡ Accepted =
-    entries-accepted chip s 0 (count s) (λ k _ b. a .entries k (omega arith)) in
-    rw (a .j1, a .j2, a .j3, l, a .j9, a .j10)
+  pub allowed-sheet : SheetAllowed chip s → sheetVerdict chip s ≡ Accepted
+  unfolding sheetVerdict headVerdict first
+  allowed-sheet a =
+      let l : entriesVerdict chip s 0 (count s) ≡ Accepted =
+      entries-accepted chip s 0 (count s) (λ k _ b. a .entries k (omega arith)) in
+      rw (a .j1, a .j2, a .j3, l, a .j9)
+
+  -- THE LAW
+  module _ (room : ℕ) where
+    pub sheet-accepted : verdict chip s room ≡ Accepted → sheetVerdict chip s ≡ Accepted
+    unfolding verdict
+    sheet-accepted e = both (sheetVerdict chip s) _ e .0
+
+    pub accepted-allowed : verdict chip s room ≡ Accepted → Allowed chip s room
+    unfolding verdict first
+    accepted-allowed e =
+        let b = both (sheetVerdict chip s) _ e in
+        record { sheet = sheet-allowed (b .0); j10 = unbroken (J10 s room) _ _ (b .1) .0 }
+
+    pub allowed-accepted : Allowed chip s room → verdict chip s room ≡ Accepted
+    unfolding verdict first
+    allowed-accepted a = rw (allowed-sheet (a .sheet), a .j10)

@@ -191,13 +191,6 @@ begins f a = eqb ((a .0 - start f) % blockSize f) 0
 abbrev pub ends : Flash → Address → Bool
 ends f a = eqb ((a .0 - start f) % blockSize f) (blockSize f - 1)
 
--- from an address to flash and block
-unfoldable pub find : Chip → Address → Found
-find chip a =
-    cond (within chip Code a)
-    (In Code (blockAt Code a))
-    (cond (within chip Data a) (In Data (blockAt Data a)) Nowhere)
-
 -- Commands: "Erase wants the first byte of a block"
 abbrev pub firstIn : Chip → Flash → Address → Bool
 firstIn chip f a = within chip f a && begins f a

@@ -2,18 +2,19 @@
 use Prim.Native.Nat.{ℕ}
 use mathlib.Core.List.{List}
 use Rattle.rules.specs.declared.Options.{Options}
-use Rattle.rules.specs.Chip.{Memory, small, total, same, blank, over, partOf, putPart, shown, find, eraseAddress, range, checksum}
+use Rattle.rules.specs.First.{first}
+use Rattle.rules.specs.Chip.{small, Memory, total, same, blank, over, partOf, putPart, shown, eraseAddress, range, checksum}
 use Rattle.rules.specs.Options.{shownSF1, shownSF2, securitySet, release, windowSet, shownFSWS, shownFSWE, shownSWS, shownSWE, eraseProtected, writeProtected}
-use Rattle.rules.specs.Frame.{bodySize, frameSize, sumByte, frame, whole, first, dataFault}
-use Rattle.rules.specs.Command.{rows, lookup, frameChecks, badParameter, idDiffers, notBlank, protected, commandChecks, commandFault}
-use Rattle.rules.specs.StandIn.{Fed, onReset, onVerify, onProgramming, onErase, onSpeed, onIdent, onSecuritySet, onSecurityGet, onRelease, onWindowSet, onWindowGet, onChecksum, effects, effectOf, onCommand, pageFault, pageWritten, onPage, compared, onCompare, taskNow, onFrame, step, powered, powerOn, byteCall, received, feed}
-use Rattle.rules.specs.Sheet.{bodyLength, offsetDue, firstBroken, headVerdict, entryVerdict, entriesVerdict, tailVerdict, verdict, stepAt}
-use Rattle.rules.specs.Meaning.{eraseFrom, writeFrom, eraseDone, writeDone, stepMeaning, meaningFrom, meaning}
-use Rattle.rules.specs.Player.{framed, commandReply, sumReply, dataReply, finished, erasedBlock, openedPages, tookSum, sentPage, absorbed, counted, emitted, reportOf, lost, playerVerdict, played, called}
-use Rattle.rules.specs.Run.{joined, carried, takenIn, turned, runFrom, between, stepFrom, mostFrames, mostFrom, run, stepRun, waits}
+use Rattle.rules.specs.Frame.{bodySize, frameSize, sumByte, frame, whole, dataFault}
+use Rattle.rules.specs.Command.{commands, rows, lookup, readAs, frameChecks, orderChecks, unless, judgedOrder, judged, secured, done}
+use Rattle.rules.specs.StandIn.{powered, Fed, onJudged, onCommand, pageFault, pageWritten, onPage, compared, onCompare, taskNow, onTask, onFrame, receive, takes, step, flashVerdict, lentVerdict, powerBy, powerOn, byteBy, byteCall, received, feed}
+use Rattle.rules.specs.Sheet.{headSize, count, mostBytes, lastKind, bodyLength, offsetDue, headVerdict, entryVerdict, entriesVerdict, sheetVerdict, verdict, stepOf, stepAt}
+use Rattle.rules.specs.Meaning.{eraseFrom, writeFrom, eraseDone, writeDone, stepDone, stepMeaning, meaningFrom, meaning}
+use Rattle.rules.specs.Player.{framed, commandReply, sumReply, dataReply, finished, erasedBlock, openedPages, tookSum, sentPage, absorbBy, absorbed, counted, emitReady, emitBy, emitted, reportBy, reportOf, awaits, lostIn, lost, playerVerdict, played, callBy, called}
+use Rattle.rules.specs.Run.{allBytes, carried, takenIn, turned, runFrom, betweenIn, between, stepFrom, mostFor, mostFrames, mostFrom, run, stepRun, waitsIn, waits}
 
 unfoldable pub everything : ℕ
-unfolding total same blank over partOf putPart shown find eraseAddress range checksum shownSF1 shownSF2 securitySet release windowSet shownFSWS shownFSWE shownSWS shownSWE eraseProtected writeProtected bodySize frameSize sumByte frame whole first dataFault rows lookup frameChecks badParameter idDiffers notBlank protected commandChecks commandFault onReset onVerify onProgramming onErase onSpeed onIdent onSecuritySet onSecurityGet onRelease onWindowSet onWindowGet onChecksum effects effectOf onCommand pageFault pageWritten onPage compared onCompare taskNow onFrame step powerOn byteCall received feed bodyLength offsetDue firstBroken headVerdict entryVerdict entriesVerdict tailVerdict verdict stepAt eraseFrom writeFrom eraseDone writeDone stepMeaning meaningFrom meaning framed commandReply sumReply dataReply finished erasedBlock openedPages tookSum sentPage absorbed counted emitted reportOf lost playerVerdict played called joined carried takenIn turned runFrom between stepFrom mostFrames mostFrom run stepRun waits
+unfolding first total same blank over partOf putPart shown eraseAddress range checksum shownSF1 shownSF2 securitySet release windowSet shownFSWS shownFSWE shownSWS shownSWE eraseProtected writeProtected bodySize frameSize sumByte frame whole dataFault commands rows lookup readAs frameChecks orderChecks unless judgedOrder judged secured done onJudged onCommand pageFault pageWritten onPage compared onCompare taskNow onTask onFrame receive takes step flashVerdict lentVerdict powerBy powerOn byteBy byteCall received feed headSize count mostBytes lastKind bodyLength offsetDue headVerdict entryVerdict entriesVerdict sheetVerdict verdict stepOf stepAt eraseFrom writeFrom eraseDone writeDone stepDone stepMeaning meaningFrom meaning framed commandReply sumReply dataReply finished erasedBlock openedPages tookSum sentPage absorbBy absorbed counted emitReady emitBy emitted reportBy reportOf awaits lostIn lost playerVerdict played callBy called allBytes carried takenIn turned runFrom betweenIn between stepFrom mostFor mostFrames mostFrom run stepRun waitsIn waits
 everything = 0
 
 -- (a) from stored options and flash: power-on, then the bytes; the answer after each byte, and the state after the last

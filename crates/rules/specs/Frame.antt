@@ -6,6 +6,7 @@ use lib.Dec.{leb, eqb}
 use lib.ListN.{length, take, drop}
 use Rattle.rules.specs.declared.Fault.{Fault}
 use Rattle.rules.specs.declared.Fault.the-variants.{Well, EndByte, Sum, Code, Length, Parameter, Ident, NotBlank, Protected, PageNotBlank, Difference}
+use Rattle.rules.specs.First.{rule, firstFault}
 use Rattle.rules.specs.Chip.{byteAt, total}
 
 -- "Command: 01h, .., 03h. Data: 02h, .., 03h for the last, 17h where more follow"
@@ -50,7 +51,7 @@ one a = frame dataStart lastEnd (a ∷ [])
 abbrev pub pair : ℕ → ℕ → List ℕ
 pair a b = frame dataStart lastEnd (a ∷ b ∷ [])
 
--- reading: LEN, body, end byte, and whether the SUM holds
+-- reading: LEN, body, end byte, SUM
 abbrev pub lenOf : List ℕ → ℕ
 lenOf f = byteAt f 1
 
@@ -60,8 +61,12 @@ bodyOf f = take (bodySize (lenOf f)) (drop 2 f)
 abbrev pub endOf : List ℕ → ℕ
 endOf f = byteAt f (bodySize (lenOf f) + 3)
 
+-- "LEN + body + SUM is 0 modulo 256", of a frame with a body of n bytes; and of a frame by its own LEN
+abbrev pub addsUp : ℕ → List ℕ → Bool
+addsUp n f = eqb (total (take (n + 2) (drop 1 f)) % 256) 0
+
 abbrev pub sumHolds : List ℕ → Bool
-sumHolds f = eqb (total (take (bodySize (lenOf f) + 2) (drop 1 f)) % 256) 0
+sumHolds f = addsUp (bodySize (lenOf f)) f
 
 -- what has come is a whole frame
 unfoldable pub whole : List ℕ → Bool
@@ -93,23 +98,11 @@ statusRow Difference = row 10 0x0F
 abbrev pub statusByte : Fault → ℕ
 statusByte f = statusRow f .byte
 
--- "First that applies"
-pub record Check : Type 0 where
-  pub fault : Fault
-  pub applies : Bool
-
-abbrev pub check : Fault → Bool → Check
-check f b = record { fault = f; applies = b }
-
-unfoldable pub first : List Check → Fault
-first [] = Well
-first (c ∷ cs) = cond (c .applies) (c .fault) (first cs)
-
 -- a data frame: 15h also "03h for 17h or the reverse"; then SUM; then "data LEN not 00h"
 unfoldable pub dataFault : Bool → List ℕ → Fault
 dataFault last f =
-    first
-    (check EndByte (not (eqb (endOf f) (endDue last)))
-    ∷ check Sum (not (sumHolds f))
-    ∷ check Length (not (eqb (lenOf f) 0x00))
+    firstFault
+    (rule EndByte (not (eqb (endOf f) (endDue last)))
+    ∷ rule Sum (not (sumHolds f))
+    ∷ rule Length (not (eqb (lenOf f) 0x00))
     ∷ [])

@@ -1,6 +1,8 @@
+pub mod First
 pub mod Chip
 pub mod Options
 pub mod Frame
+pub mod State
 pub mod Command
 pub mod StandIn
 pub mod Sheet

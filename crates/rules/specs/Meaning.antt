@@ -13,7 +13,7 @@ use Rattle.rules.specs.declared.Status.the-variants.{Byte}
 use Rattle.rules.specs.declared.Report.{Report}
 use Rattle.rules.specs.Chip.{Memory, same, blank, block, firstPage, pageOf, putPage, blockOfPage, eraseBlock, bytesFrom, checksum}
 use Rattle.rules.specs.Options.{eraseProtected, writeProtected}
-use Rattle.rules.specs.Sheet.{count, stepAt, stepBlocks, stepPages, bodyOf, bodyPage}
+use Rattle.rules.specs.Sheet.{count, stepAt, stepBlocks, stepPages, stepBody, bodyPage}
 
 -- pieces done one after the other, up to the first that fails: the memory, how many were done, and the status
 pub record Tried : Type 0 where
@@ -77,7 +77,7 @@ unfoldable pub stepDone : Kind → Options → List ℕ → Step → Memory → 
 stepDone Erase o s t m = eraseDone (eraseFrom o t m 0 (stepBlocks t))
 stepDone Write o s t m = writeDone (stepPages t) (writeFrom o s t m 0 (stepPages t))
 stepDone Verify o s t m =
-    let equal = same (bytesFrom m (t .flash) (t .first) (t .last)) (bodyOf s t) in
+    let equal = same (bytesFrom m (t .flash) (t .first) (t .last)) (stepBody s t) in
     done m (cond equal 0x06 0x0F) 0 (1 + stepPages t) 0
 stepDone Sum o s t m = done m 0x06 0 1 (checksum (bytesFrom m (t .flash) (t .first) (t .last)))
 

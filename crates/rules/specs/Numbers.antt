@@ -1,5 +1,6 @@
 -- 01's own number or value for each case of an enum that is an answer. Assumes nothing.
 use Prim.Native.Nat.{ℕ}
+use Rattle.rules.specs.declared.numbers.Number.{Number}
 use Rattle.rules.specs.declared.Refusal.{Refusal}
 use Rattle.rules.specs.declared.Refusal.the-variants.{D1, D2, D3, J1, J2, J3, J4, J5, J6, J7, J8, J9, J10, P1, P2}
 use Rattle.rules.specs.declared.Call.{Call}
@@ -12,11 +13,6 @@ use Rattle.rules.specs.declared.Status.{Status}
 use Rattle.rules.specs.declared.Status.the-variants.{Byte, L1}
 use Rattle.rules.specs.declared.Kind.{Kind}
 use Rattle.rules.specs.declared.Kind.the-variants.{Erase, Write, Verify, Sum}
-
--- a letter of 01's names by its ASCII code (0 for none), and the number behind it
-pub record Number : Type 0 where
-  pub letter : ℕ
-  pub number : ℕ
 
 abbrev number : ℕ → ℕ → Number
 number l n = record { letter = l; number = n }

@@ -1,5 +1,5 @@
 -- 01, The job sheet (player calls) and Plain meaning and report (replies): the player, over its own record. Assumes nothing.
-use Prim.Native.Nat.{ℕ, _+_, _-_, _%_}
+use Prim.Native.Nat.{ℕ, _+_, _-_}
 use mathlib.Core.Bool.{Bool, true, false, cond, not, _&&_}
 use mathlib.Core.List.{List, [], _∷_, _++_}
 use lib.Dec.{ltb, eqb}
@@ -20,9 +20,11 @@ use Rattle.rules.specs.declared.Player.{Player}
 use Rattle.rules.specs.declared.Report.{Report}
 use Rattle.rules.specs.declared.Next.{Next}
 use Rattle.rules.specs.declared.Next.the-variants.{Refused, Frame, End}
-use Rattle.rules.specs.Chip.{byteAt, wordAt, addressBytes, total, over, block, firstByte, lastByte}
-use Rattle.rules.specs.Frame.{commandStart, dataStart, lastEnd, endDue, frame}
-use Rattle.rules.specs.Sheet.{count, stepAt, stepBlocks, stepPages, bodyPage, verdict, andThen}
+use Rattle.rules.specs.First.{refuse, firstBroken, andThen}
+use Rattle.rules.specs.Chip.{byteAt, wordAt, addressBytes, over, block, firstByte, lastByte}
+use Rattle.rules.specs.Frame.{commandStart, dataStart, lastEnd, endDue, frame, addsUp}
+use Rattle.rules.specs.Command.{verifyCode, eraseCode, programmingCode, checksumCode}
+use Rattle.rules.specs.Sheet.{count, stepAt, stepBlocks, stepPages, bodyPage, verdict}
 
 abbrev pub player : Stage → ℕ → ℕ → ℕ → ℕ → Status → Player
 player g i a n k st = record { stage = g; step = i; at = a; frames = n; pieces = k; status = st }
@@ -42,7 +44,7 @@ framed n r =
     eqb (length r) (n + 4)
     && eqb (byteAt r 0) dataStart
     && eqb (byteAt r 1) n
-    && eqb (total (take (n + 2) (drop 1 r)) % 256) 0
+    && addsUp n r
     && eqb (byteAt r (n + 3)) lastEnd
 
 -- "Due to a command frame is one frame of one byte"
@@ -118,11 +120,11 @@ sentPage s t p r sums =
     cond (isWell (dataReply r)) on (stopped p (dataReply r) (pagesSure (t .kind) (p .at)) sums)
 
 -- "The first call of a play reads no reply"; all counts start at 0
-abbrev pub begun : List ℕ → Player
-begun s = player (beginning 0 (count s)) 0 0 0 0 well
+abbrev pub started : List ℕ → Player
+started s = player (beginning 0 (count s)) 0 0 0 0 well
 
 unfoldable pub absorbBy : Stage → List ℕ → Step → Player → List ℕ → List ℕ → Absorbed
-absorbBy New s t p r sums = absorbs (begun s) sums
+absorbBy New s t p r sums = absorbs (started s) sums
 absorbBy Ready s t p r sums = absorbs p sums
 absorbBy Erased s t p r sums = erasedBlock s t p r sums
 absorbBy Opened s t p r sums = openedPages p r sums
@@ -163,16 +165,16 @@ pairCommand code t =
     (code ∷ (addressBytes (firstByte (t .flash) (t .first)) ++ addressBytes (lastByte (t .flash) (t .last))))
 
 abbrev pub blockCommand : Step → ℕ → List ℕ
-blockCommand t at = command (0x22 ∷ addressBytes (firstByte (t .flash) (block (t .first .0 + at))))
+blockCommand t at = command (eraseCode ∷ addressBytes (firstByte (t .flash) (block (t .first .0 + at))))
 
 abbrev pub pageFrame : List ℕ → Step → ℕ → List ℕ
 pageFrame s t at = frame dataStart (endDue (eqb (at + 1) (stepPages t))) (bodyPage s t at)
 
 unfoldable pub emitReady : Kind → Step → Player → Sent
 emitReady Erase t p = sends Erased p (blockCommand t (p .at))
-emitReady Write t p = sends Opened p (pairCommand 0x40 t)
-emitReady Verify t p = sends Opened p (pairCommand 0x13 t)
-emitReady Sum t p = sends Summed p (pairCommand 0xB0 t)
+emitReady Write t p = sends Opened p (pairCommand programmingCode t)
+emitReady Verify t p = sends Opened p (pairCommand verifyCode t)
+emitReady Sum t p = sends Summed p (pairCommand checksumCode t)
 
 unfoldable pub emitBy : Stage → List ℕ → Step → Player → Sent
 unfolding emitReady
@@ -239,8 +241,7 @@ frameRoom = 260
 -- "A player call names a J refusal first, then P1 .., then P2"
 unfoldable pub playerVerdict : Chip → List ℕ → Player → ℕ → ℕ → Verdict
 playerVerdict chip s p room sums =
-    let later = cond (ltb room frameRoom) (v.Refused P1) (cond (lost chip s p) (v.Refused P2) Accepted) in
-    andThen (verdict chip s sums) later
+    andThen (verdict chip s sums) (firstBroken (refuse P1 (ltb room frameRoom) ∷ refuse P2 (lost chip s p) ∷ []))
 
 -- the record, the call's answer, the report and the lent buffers after a call
 pub record Called : Type 0 where

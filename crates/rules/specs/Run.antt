@@ -34,29 +34,29 @@ pub record Joined : Type 0 where
   pub sums : List ℕ
   pub frame : List ℕ
   pub reply : List ℕ
-  pub heard : List ℕ
+  pub arrived : List ℕ
 
 abbrev pub joining : Player → State → List ℕ → List ℕ → List ℕ → List ℕ → Joined
-joining p s sums frame reply heard =
-    record { player = p; state = s; sums = sums; frame = frame; reply = reply; heard = heard }
+joining p s sums frame reply arrived =
+    record { player = p; state = s; sums = sums; frame = frame; reply = reply; arrived = arrived }
 
 -- all bytes answered
-unfoldable pub joined : List (List ℕ) → List ℕ
-joined [] = []
-joined (a ∷ later) = a ++ joined later
+unfoldable pub allBytes : List (List ℕ) → List ℕ
+allBytes [] = []
+allBytes (a ∷ later) = a ++ allBytes later
 
 -- the stand-in steps through a frame's bytes, and all that it answers goes through the line
 unfoldable pub carried : Line → Chip → ℕ → Player → List ℕ → Joined → Joined
 carried line chip k p bytes j =
     let fed = feed chip (j .state) bytes in
-    let heard = line k (joined (fed .answers)) in
-    joining p (fed .state) (j .sums) (over bytes (j .frame)) (over heard (j .reply)) heard
+    let arrived = line k (allBytes (fed .answers)) in
+    joining p (fed .state) (j .sums) (over bytes (j .frame)) (over arrived (j .reply)) arrived
 
 -- the reply is taken in
 unfoldable pub takenIn : Chip → List ℕ → Joined → Joined
 takenIn chip s j =
-    let a = absorbed chip s (j .player) (j .heard) (j .sums) in
-    joining (a .player) (j .state) (a .sums) (j .frame) (j .reply) (j .heard)
+    let a = absorbed chip s (j .player) (j .arrived) (j .sums) in
+    joining (a .player) (j .state) (a .sums) (j .frame) (j .reply) (j .arrived)
 
 -- A TURN, from one reply taken in to the next: the frame is given and carried over, and its answer taken in
 unfoldable pub turned : Line → Chip → List ℕ → ℕ → Joined → Joined
@@ -66,11 +66,11 @@ turned line chip s k j =
 
 -- a run: whether it ended, and where it stands
 pub record Ran : Type 0 where
-  pub ended : Bool
-  pub joined : Joined
+  pub complete : Bool
+  pub reached : Joined
 
 abbrev pub ran : Bool → Joined → Ran
-ran e j = record { ended = e; joined = j }
+ran e j = record { complete = e; reached = j }
 
 abbrev pub none : List ℕ → Bool
 none [] = true

@@ -9,54 +9,60 @@ use Rattle.rules.specs.declared.Flash.the-variants.{Code}
 use Rattle.rules.specs.declared.Address.{Address}
 use Rattle.rules.specs.declared.Range.{Range}
 use Rattle.rules.specs.declared.Range.the-variants.{Blocks, Invalid}
-use Rattle.rules.specs.declared.Refusal.{Refusal}
 use Rattle.rules.specs.declared.Refusal.the-variants as r
 use Rattle.rules.specs.declared.Verdict.{Verdict}
-use Rattle.rules.specs.declared.Verdict.the-variants.{Accepted, Refused}
+use Rattle.rules.specs.declared.Verdict.the-variants.{Accepted}
 use Rattle.rules.specs.declared.Kind.{Kind}
 use Rattle.rules.specs.declared.Kind.the-variants.{Erase, Write, Verify, Sum}
 use Rattle.rules.specs.declared.Step.{Step}
+use Rattle.rules.specs.First.{refuse, firstBroken, andThen}
 use Rattle.rules.specs.Chip.{byteAt, wordAt, addressAt, block, blockSize, blocksFrom, pagesFrom, pageSize, range, invalid}
 
 -- ---- what stands where ----
 
--- "Step count n in two bytes .. 0 to 64; n entries of 12 bytes; the bodies"; at most 65,536 bytes
-abbrev pub headSize : ℕ
-headSize = 2
+-- "Step count n in two bytes, low first, 0 to 64": that is the whole head
+unfoldable pub headSize : List ℕ → ℕ
+headSize s = 2
 
-abbrev pub entrySize : ℕ
-entrySize = 12
+unfoldable pub count : List ℕ → ℕ
+count s = wordAt s 0
 
 abbrev pub mostSteps : ℕ
 mostSteps = 64
 
-abbrev pub mostBytes : ℕ
-mostBytes = 65536
+-- "n entries of 12 bytes; the bodies"
+abbrev pub entrySize : ℕ
+entrySize = 12
 
-abbrev pub count : List ℕ → ℕ
-count s = wordAt s 0
+abbrev pub entryAt : List ℕ → ℕ → ℕ
+entryAt s i = headSize s + entrySize * i
 
 abbrev pub tableEnd : List ℕ → ℕ
-tableEnd s = headSize + entrySize * count s
+tableEnd s = entryAt s (count s)
+
+-- "over 65,536 bytes"
+unfoldable pub mostBytes : List ℕ → ℕ
+mostBytes s = 65536
+
+-- "Kinds: 1 erase, 2 write, 3 verify, 4 sum"
+unfoldable pub lastKind : List ℕ → ℕ
+lastKind s = 4
 
 -- "An entry: kind, SAD (3), EAD (3), a zero byte, body offset (4, low first)"
-abbrev pub entryAt : ℕ → ℕ
-entryAt i = headSize + entrySize * i
-
 abbrev pub kindAt : List ℕ → ℕ → ℕ
-kindAt s i = byteAt s (entryAt i)
+kindAt s i = byteAt s (entryAt s i)
 
 abbrev pub sadAt : List ℕ → ℕ → Address
-sadAt s i = addressAt s (entryAt i + 1)
+sadAt s i = addressAt s (entryAt s i + 1)
 
 abbrev pub eadAt : List ℕ → ℕ → Address
-eadAt s i = addressAt s (entryAt i + 4)
+eadAt s i = addressAt s (entryAt s i + 4)
 
 abbrev pub zeroAt : List ℕ → ℕ → ℕ
-zeroAt s i = byteAt s (entryAt i + 7)
+zeroAt s i = byteAt s (entryAt s i + 7)
 
 abbrev pub offsetAt : List ℕ → ℕ → ℕ
-offsetAt s i = wordAt s (entryAt i + 8) + 65536 * wordAt s (entryAt i + 10)
+offsetAt s i = wordAt s (entryAt s i + 8) + 65536 * wordAt s (entryAt s i + 10)
 
 abbrev pub rangeAt : Chip → List ℕ → ℕ → Range
 rangeAt chip s i = range chip (sadAt s i) (eadAt s i)
@@ -76,7 +82,7 @@ offsetDue s i = cond (eqb i 0) (tableEnd s) (bodyEnd s (i - 1))
 
 -- "J1 under 2 or over 65,536 bytes; J2 count over 64; J3 table cut short"
 abbrev pub J1 : List ℕ → Bool
-J1 s = ltb (length s) headSize || ltb mostBytes (length s)
+J1 s = ltb (length s) (headSize s) || ltb (mostBytes s) (length s)
 
 abbrev pub J2 : List ℕ → Bool
 J2 s = ltb mostSteps (count s)
@@ -86,7 +92,7 @@ J3 s = ltb (length s) (tableEnd s)
 
 -- "entry by entry J4 kind, J5 zero byte, J6 address pair, J7 offset, J8 body past the end"
 abbrev pub J4 : List ℕ → ℕ → Bool
-J4 s i = not (leb 1 (kindAt s i) && leb (kindAt s i) 4)
+J4 s i = not (leb 1 (kindAt s i) && leb (kindAt s i) (lastKind s))
 
 abbrev pub J5 : List ℕ → ℕ → Bool
 J5 s i = not (eqb (zeroAt s i) 0)
@@ -109,33 +115,17 @@ J10 s room = ltb room (count s)
 
 -- ---- the verdict: "first that applies" ----
 
-pub record Rule : Type 0 where
-  pub name : Refusal
-  pub broken : Bool
-
-abbrev pub rule : Refusal → Bool → Rule
-rule n b = record { name = n; broken = b }
-
-unfoldable pub firstBroken : List Rule → Verdict
-firstBroken [] = Accepted
-firstBroken (x ∷ xs) = cond (x .broken) (Refused (x .name)) (firstBroken xs)
-
--- a verdict, and where that accepts the next
-abbrev pub andThen : Verdict → Verdict → Verdict
-andThen Accepted v = v
-andThen (Refused n) v = Refused n
-
 unfoldable pub headVerdict : List ℕ → Verdict
-headVerdict s = firstBroken (rule r.J1 (J1 s) ∷ rule r.J2 (J2 s) ∷ rule r.J3 (J3 s) ∷ [])
+headVerdict s = firstBroken (refuse r.J1 (J1 s) ∷ refuse r.J2 (J2 s) ∷ refuse r.J3 (J3 s) ∷ [])
 
 unfoldable pub entryVerdict : Chip → List ℕ → ℕ → Verdict
 entryVerdict chip s i =
     firstBroken
-    (rule r.J4 (J4 s i)
-    ∷ rule r.J5 (J5 s i)
-    ∷ rule r.J6 (J6 chip s i)
-    ∷ rule r.J7 (J7 s i)
-    ∷ rule r.J8 (J8 s i)
+    (refuse r.J4 (J4 s i)
+    ∷ refuse r.J5 (J5 s i)
+    ∷ refuse r.J6 (J6 chip s i)
+    ∷ refuse r.J7 (J7 s i)
+    ∷ refuse r.J8 (J8 s i)
     ∷ [])
 
 -- entry i and those behind it, so many
@@ -144,15 +134,16 @@ entriesVerdict chip s i zero = Accepted
 entriesVerdict chip s i (suc left) =
     let later = entriesVerdict chip s (i + 1) left in andThen (entryVerdict chip s i) later
 
-unfoldable pub tailVerdict : List ℕ → ℕ → Verdict
-tailVerdict s room = firstBroken (rule r.J9 (J9 s) ∷ rule r.J10 (J10 s room) ∷ [])
-
--- THE VERDICT, of a sheet and the room in the list for sums
-unfoldable pub verdict : Chip → List ℕ → ℕ → Verdict
-verdict chip s room =
+-- the sheet's own rules, J1 to J9
+unfoldable pub sheetVerdict : Chip → List ℕ → Verdict
+sheetVerdict chip s =
     let entries = entriesVerdict chip s 0 (count s) in
-    let later = andThen entries (tailVerdict s room) in
+    let later = andThen entries (firstBroken (refuse r.J9 (J9 s) ∷ [])) in
     andThen (headVerdict s) later
+
+-- THE VERDICT, of a sheet and the room in the list for sums: its own rules, then J10
+unfoldable pub verdict : Chip → List ℕ → ℕ → Verdict
+verdict chip s room = andThen (sheetVerdict chip s) (firstBroken (refuse r.J10 (J10 s room) ∷ []))
 
 -- ---- the steps of an accepted sheet ----
 
@@ -175,8 +166,8 @@ abbrev pub stepPages : Step → ℕ
 stepPages t = pagesFrom (t .flash) (t .first) (t .last)
 
 -- the body, and its page k
-abbrev pub bodyOf : List ℕ → Step → List ℕ
-bodyOf s t = take (stepBlocks t * blockSize (t .flash)) (drop (t .body) s)
+abbrev pub stepBody : List ℕ → Step → List ℕ
+stepBody s t = take (stepBlocks t * blockSize (t .flash)) (drop (t .body) s)
 
 abbrev pub bodyPage : List ℕ → Step → ℕ → List ℕ
 bodyPage s t k = take pageSize (drop (t .body + k * pageSize) s)

@@ -6,156 +6,27 @@ use lib.Dec.{ltb, leb, eqb}
 use lib.ListN.{length, take}
 use Rattle.rules.specs.declared.Chip.{Chip}
 use Rattle.rules.specs.declared.Flash.the-variants.{Code, Data}
-use Rattle.rules.specs.declared.Found.{Found}
-use Rattle.rules.specs.declared.Found.the-variants.{In, Nowhere}
-use Rattle.rules.specs.declared.Range.{Range}
-use Rattle.rules.specs.declared.Range.the-variants.{Blocks, Invalid}
 use Rattle.rules.specs.declared.Options.{Options}
 use Rattle.rules.specs.declared.Phase.{Phase}
 use Rattle.rules.specs.declared.Phase.the-variants.{Mode, Speed, Ident, Command, Silent}
 use Rattle.rules.specs.declared.Pages.{Pages}
 use Rattle.rules.specs.declared.Task.{Task}
 use Rattle.rules.specs.declared.Task.the-variants.{Idle, Programming, Verifying}
+use Rattle.rules.specs.declared.Judged.{Judged}
+use Rattle.rules.specs.declared.Judged.the-variants.{Faulty, Ordered}
 use Rattle.rules.specs.declared.Fault.{Fault}
 use Rattle.rules.specs.declared.Fault.the-variants.{Protected, PageNotBlank, Difference}
 use Rattle.rules.specs.declared.Call.{Call}
 use Rattle.rules.specs.declared.Call.the-variants.{Refused, Answer}
 use Rattle.rules.specs.declared.Refusal.the-variants.{D1, D2, D3}
-use Rattle.rules.specs.Chip.{Memory, byteAt, wordAt, wordBytes, same, blank, over, pages, pagesFrom, firstPage, pageOf, putPage, blockOfPage, eraseBlock, bytesFrom, checksum, fits, eraseAddress, range}
-use Rattle.rules.specs.Options.{IDEN, IFPR, shownSF1, shownSF2, shownSWS, shownSWE, securitySet, release, windowSet, writeProtected}
-use Rattle.rules.specs.Frame.{commandStart, dataStart, lastEnd, frameSize, frame, one, pair, lenOf, bodyOf, whole, statusRow, statusByte, check, first, dataFault}
-use Rattle.rules.specs.Command.{codeOf, sadOf, eadOf, commandFault}
-
--- the stand-in: phase, command begun, options, bytes of the frame in hand, both flashes
-pub record State : Type 0 where
-  pub phase : Phase
-  pub task : Task
-  pub options : Options
-  pub got : List ℕ
-  pub memory : Memory
-
--- a state, and the bytes answered
-pub record Out : Type 0 where
-  pub state : State
-  pub answer : List ℕ
-
-abbrev pub out : State → List ℕ → Out
-out s a = record { state = s; answer = a }
-
--- "the receiver starts afresh": nothing received
-abbrev pub rest : Phase → Task → Options → Memory → State
-rest ph t o m = record { phase = ph; task = t; options = o; got = []; memory = m }
-
-abbrev pub ack : List ℕ
-ack = one 0x06
-
--- ---- the commands, judged well: each from the state and its frame ----
-
-abbrev pub Effect : Type 0
-Effect = Chip → State → List ℕ → Out
-
--- acknowledged, with that task begun, or with those options, or with that memory
-abbrev pub begun : Task → State → Out
-begun t s = out (rest (s .phase) t (s .options) (s .memory)) ack
-
-abbrev pub optioned : Options → State → Out
-optioned o s = out (rest (s .phase) Idle o (s .memory)) ack
-
--- acknowledged, and a data frame behind it
-abbrev pub told : List ℕ → State → Out
-told body s = out (rest (s .phase) Idle (s .options) (s .memory)) (ack ++ frame dataStart lastEnd body)
-
-unfoldable pub onReset : Effect
-onReset chip s f = begun Idle s
-
--- Verify and Programming wait for the pages of their range
-unfoldable pub pagesOf : Range → Pages
-pagesOf (Blocks f a b) = record { flash = f; page = firstPage f a; left = pagesFrom f a b; status = 0x06 }
-pagesOf Invalid = record { flash = Code; page = 0; left = 0; status = 0x06 }
-
-unfoldable pub onVerify : Effect
-unfolding pagesOf
-onVerify chip s f = begun (Verifying (pagesOf (range chip (sadOf f) (eadOf f)))) s
-
-unfoldable pub onProgramming : Effect
-unfolding pagesOf
-onProgramming chip s f = begun (Programming (pagesOf (range chip (sadOf f) (eadOf f)))) s
-
-unfoldable pub erased : Memory → Found → Memory
-erased m (In f b) = eraseBlock m f b
-erased m Nowhere = m
-
-unfoldable pub onErase : Effect
-unfolding erased
-onErase chip s f =
-    out (rest (s .phase) Idle (s .options) (erased (s .memory) (eraseAddress chip (sadOf f)))) ack
-
--- "06h, 20h, 00h in one data frame"; "success leads to Ident if IDEN is 0, else to Command"
-abbrev pub afterSpeed : Options → Phase
-afterSpeed o = cond (eqb (IDEN o) 0) Ident Command
-
-unfoldable pub onSpeed : Effect
-onSpeed chip s f =
-    out (rest (afterSpeed (s .options)) Idle (s .options) (s .memory))
-    (frame dataStart lastEnd (0x06 ∷ 0x20 ∷ 0x00 ∷ []))
-
-unfoldable pub onIdent : Effect
-onIdent chip s f = out (rest Command Idle (s .options) (s .memory)) ack
-
--- "If IFPR is then 0 nothing is answered and the chip is Silent"
-unfoldable pub onSecuritySet : Effect
-onSecuritySet chip s f =
-    let o = securitySet (byteAt f 3) (byteAt f 4) (s .options) in
-    cond (eqb (IFPR o) 0) (out (rest Silent Idle o (s .memory)) []) (optioned o s)
-
-unfoldable pub onSecurityGet : Effect
-onSecurityGet chip s f = told (shownSF1 (s .options) ∷ shownSF2 (s .options) ∷ 0x00 ∷ []) s
-
-unfoldable pub onRelease : Effect
-onRelease chip s f = optioned (release (s .options)) s
-
-unfoldable pub onWindowSet : Effect
-onWindowSet chip s f = optioned (windowSet (wordAt f 3) (wordAt f 5) (s .options)) s
-
-unfoldable pub onWindowGet : Effect
-onWindowGet chip s f =
-    told (wordBytes (shownSWS (s .options)) ++ wordBytes (shownSWE chip (s .options))) s
-
-unfoldable pub summed : Memory → Range → ℕ
-summed m (Blocks f a b) = checksum (bytesFrom m f a b)
-summed m Invalid = 0
-
-unfoldable pub onChecksum : Effect
-unfolding summed
-onChecksum chip s f = told (wordBytes (summed (s .memory) (range chip (sadOf f) (eadOf f)))) s
-
--- the commands by their codes
-pub record Named : Type 0 where
-  pub code : ℕ
-  pub does : Effect
-
-abbrev pub named : ℕ → Effect → Named
-named c e = record { code = c; does = e }
-
-unfoldable pub effects : List Named
-effects =
-    named 0x00 onReset
-    ∷ named 0x13 onVerify
-    ∷ named 0x22 onErase
-    ∷ named 0x40 onProgramming
-    ∷ named 0x9A onSpeed
-    ∷ named 0x9C onIdent
-    ∷ named 0xA0 onSecuritySet
-    ∷ named 0xA1 onSecurityGet
-    ∷ named 0xA2 onRelease
-    ∷ named 0xAC onWindowSet
-    ∷ named 0xAD onWindowGet
-    ∷ named 0xB0 onChecksum
-    ∷ []
-
-unfoldable pub effectOf : List Named → ℕ → Effect
-effectOf [] code = onReset
-effectOf (n ∷ ns) code = cond (eqb (n .code) code) (n .does) (effectOf ns code)
+use Rattle.rules.specs.declared.Verdict.{Verdict}
+use Rattle.rules.specs.declared.Verdict.the-variants as verdict
+use Rattle.rules.specs.First.{rule, firstFault, refuse, firstBroken, andThen}
+use Rattle.rules.specs.Chip.{Memory, flashSize, same, blank, over, pages, pageOf, putPage, blockOfPage}
+use Rattle.rules.specs.Options.{IFPR, writeProtected}
+use Rattle.rules.specs.Frame.{commandStart, dataStart, frameSize, one, pair, lenOf, bodyOf, whole, statusRow, statusByte, dataFault}
+use Rattle.rules.specs.Command.{judged, done}
+pub use Rattle.rules.specs.State.{State, Out, Effect, out, rest}
 
 -- ---- a whole frame ----
 
@@ -173,11 +44,13 @@ phaseAfter Silent v = Silent
 abbrev pub refused : Fault → State → Out
 refused v s = out (rest (phaseAfter (s .phase) v) Idle (s .options) (s .memory)) (one (statusByte v))
 
+-- a command frame, judged
+unfoldable pub onJudged : Judged → Chip → State → Out
+onJudged (Faulty v) chip s = refused v s
+onJudged (Ordered order) chip s = done chip s order
+
 unfoldable pub onCommand : Effect
-onCommand chip s f =
-    let v = commandFault chip (s .phase) (s .options) (s .memory) f in
-    let well = effectOf effects (codeOf f) chip s f in
-    cond (eqb (statusByte v) 0x06) well (refused v s)
+onCommand chip s f = onJudged (judged chip (s .phase) (s .options) (s .memory) f) chip s
 
 -- the pages after the one in hand, with what is known of it
 abbrev pub later : Pages → ℕ → Pages
@@ -188,7 +61,7 @@ lastPage p = eqb (p .left) 1
 
 -- "A page is protected when ..": 10h; "A page not all blank is a write error": 1Ch
 unfoldable pub pageFault : Bool → List ℕ → Fault
-pageFault guarded page = first (check Protected guarded ∷ check PageNotBlank (not (blank page)) ∷ [])
+pageFault guarded page = firstFault (rule Protected guarded ∷ rule PageNotBlank (not (blank page)) ∷ [])
 
 -- "A page in error stays as it is"
 unfoldable pub pageWritten : Bool → Memory → Pages → List ℕ → Memory
@@ -200,8 +73,8 @@ abbrev pub pageGuarded : Options → Pages → Bool
 pageGuarded o p = writeProtected o (p .flash) (blockOfPage (p .flash) (p .page))
 
 -- the pair is sent and the command ends, with that memory
-abbrev pub ended : ℕ → ℕ → State → Memory → Out
-ended a b s m = out (rest (s .phase) Idle (s .options) m) (pair a b)
+abbrev pub pairEnds : ℕ → ℕ → State → Memory → Out
+pairEnds a b s m = out (rest (s .phase) Idle (s .options) m) (pair a b)
 
 -- Programming: line status, and the write status "of the page before"; of the last page its own
 unfoldable pub onPage : Pages → State → List ℕ → Out
@@ -211,24 +84,24 @@ onPage p s f =
     let st = statusByte (pageFault guarded (pageOf (s .memory) (p .flash) (p .page))) in
     let m = pageWritten guarded (s .memory) p (bodyOf f) in
     let more = out (rest (s .phase) (Programming (later p st)) (s .options) m) (pair 0x06 0x06) in
-    let last = ended 0x06 st s m in
+    let last = pairEnds 0x06 st s m in
     cond (eqb line 0x06 && eqb (p .status) 0x06)
     (cond (lastPage p) last more)
-    (ended line (p .status) s (s .memory))
+    (pairEnds line (p .status) s (s .memory))
 
 -- Verify: "A difference in any page is told only in the last answer"
 unfoldable pub compared : Memory → Pages → List ℕ → ℕ
 compared m p body =
     statusByte
-    (first (check Difference (not (eqb (p .status) 0x06 && same (pageOf m (p .flash) (p .page)) body)) ∷ []))
+    (firstFault (rule Difference (not (eqb (p .status) 0x06 && same (pageOf m (p .flash) (p .page)) body)) ∷ []))
 
 unfoldable pub onCompare : Pages → State → List ℕ → Out
 onCompare p s f =
     let line = statusByte (dataFault (lastPage p) f) in
     let st = compared (s .memory) p (bodyOf f) in
     let more = out (rest (s .phase) (Verifying (later p st)) (s .options) (s .memory)) (pair 0x06 0x06) in
-    let last = ended 0x06 st s (s .memory) in
-    cond (eqb line 0x06) (cond (lastPage p) last more) (ended line 0x06 s (s .memory))
+    let last = pairEnds 0x06 st s (s .memory) in
+    cond (eqb line 0x06) (cond (lastPage p) last more) (pairEnds line 0x06 s (s .memory))
 
 -- the command begun: only in Command, and only while its pages are there
 abbrev pub ahead : Chip → Pages → Bool
@@ -294,25 +167,45 @@ unfoldable pub step : Chip → State → ℕ → Out
 unfolding takes
 step chip s b = takes (s .phase) chip s b
 
--- ---- power-on, the byte call and its refusals ----
+-- ---- what is lent: the refusals D ----
+
+-- "D1 if lent code flash is not 32,768 long, D2 if data flash is not 2,048": by the lengths of the lent flashes
+unfoldable pub flashVerdict : Chip → ℕ → ℕ → Verdict
+flashVerdict chip code dat =
+    firstBroken
+    (refuse D1 (not (eqb code (flashSize chip Code))) ∷ refuse D2 (not (eqb dat (flashSize chip Data))) ∷ [])
+
+-- "D3 if the reply buffer is under 16 bytes, in that order"
+abbrev pub replyRoom : ℕ
+replyRoom = 16
+
+unfoldable pub lentVerdict : Chip → ℕ → ℕ → ℕ → Verdict
+lentVerdict chip code dat reply =
+    andThen (flashVerdict chip code dat) (firstBroken (refuse D3 (ltb reply replyRoom) ∷ []))
+
+-- ---- power-on and the byte call ----
 
 -- "With IFPR 0 the chip is Silent .. Otherwise the first byte is the mode"
+abbrev pub poweredPhase : Options → Phase
+poweredPhase o = cond (eqb (IFPR o) 0) Silent Mode
+
 abbrev pub powered : Options → Memory → State
-powered o m = rest (cond (eqb (IFPR o) 0) Silent Mode) Idle o m
+powered o m = rest (poweredPhase o) Idle o m
 
 -- the state after a call, and what it answered
 pub record Powered : Type 0 where
   pub state : State
   pub call : Call
 
--- "Power-on knows D1 and D2": refused, the record given comes back
+-- refused, the record given comes back
+unfoldable pub powerBy : Verdict → State → Options → Memory → Powered
+powerBy verdict.Accepted given o m = record { state = powered o m; call = Answer 0 }
+powerBy (verdict.Refused n) given o m = record { state = given; call = Refused n }
+
+-- POWER-ON: "Power-on knows D1 and D2"
 unfoldable pub powerOn : Chip → State → Options → Memory → Powered
-powerOn chip given o m =
-    cond (fits chip m Code)
-    (cond (fits chip m Data)
-    (record { state = powered o m; call = Answer 0 })
-    (record { state = given; call = Refused D2 }))
-    (record { state = given; call = Refused D1 })
+unfolding powerBy
+powerOn chip given o m = powerBy (flashVerdict chip (length (m .code)) (length (m .«data»))) given o m
 
 -- the state, the call's answer and the reply buffer after a call
 pub record Outcome : Type 0 where
@@ -323,19 +216,16 @@ pub record Outcome : Type 0 where
 abbrev pub answered : Out → List ℕ → Outcome
 answered o reply = record { state = o .state; call = Answer (length (o .answer)); reply = over (o .answer) reply }
 
--- "D3 if the reply buffer is under 16 bytes"
-abbrev pub replyRoom : ℕ
-replyRoom = 16
+-- "the byte is not taken and state and buffers stand"
+unfoldable pub byteBy : Verdict → Chip → State → List ℕ → ℕ → Outcome
+byteBy verdict.Accepted chip s reply b = answered (step chip s b) reply
+byteBy (verdict.Refused n) chip s reply b = record { state = s; call = Refused n; reply = reply }
 
--- THE BYTE CALL: "in that order; the byte is not taken and state and buffers stand"
+-- THE BYTE CALL
 unfoldable pub byteCall : Chip → State → List ℕ → ℕ → Outcome
+unfolding byteBy
 byteCall chip s reply b =
-    let taken = answered (step chip s b) reply in
-    cond (fits chip (s .memory) Code)
-    (cond (fits chip (s .memory) Data)
-    (cond (ltb (length reply) replyRoom) (record { state = s; call = Refused D3; reply = reply }) taken)
-    (record { state = s; call = Refused D2; reply = reply }))
-    (record { state = s; call = Refused D1; reply = reply })
+    byteBy (lentVerdict chip (length (s .memory .code)) (length (s .memory .«data»)) (length reply)) chip s reply b
 
 -- what a count and a frame buffer hold of a frame: a count that no buffer holds, or at or past its LEN's end, is nothing received
 unfoldable pub received : ℕ → List ℕ → List ℕ

@@ -4,6 +4,7 @@ use mathlib.Core.Bool.{Bool, true, cond, _&&_}
 use mathlib.Core.List.{List, [], _∷_, _++_}
 use lib.Dec.{eqb}
 use lib.ListN.{set, replicate}
+use Rattle.rules.specs.declared.Chip.{Chip}
 use Rattle.rules.specs.declared.Flash.the-variants.{Data}
 use Rattle.rules.specs.declared.Options.{Options}
 use Rattle.rules.specs.declared.Report.{Report}
@@ -14,12 +15,14 @@ use Rattle.rules.specs.Command.{phaseNumber}
 use Rattle.rules.specs.StandIn.{State, feed, powered}
 use Rattle.rules.specs.Sheet.{verdict}
 use Rattle.rules.specs.Meaning.{Ended, meaning}
-use Rattle.rules.specs.Numbers.{Number, verdictNumber, statusNumber}
-use Rattle.rules.specs.Run.{Joined, joined, clean, joinedAtStart, run, waits}
+use Rattle.rules.specs.declared.numbers.Number.{Number}
+use Rattle.rules.specs.Numbers.{verdictNumber, statusNumber}
+use Rattle.rules.specs.Run.{Joined, allBytes, clean, joinedAtStart, run, waits}
 
 -- ---- a session: stored options and flash, power-on, bytes; the bytes answered, and what stands afterwards ----
 
 pub record Session : Type 0 where
+  pub chip : Chip
   pub options : Options
   pub memory : Memory
   pub bytes : List ℕ
@@ -37,8 +40,8 @@ sameMemory a b = same (a .code) (b .code) && same (a .«data») (b .«data»)
 
 unfoldable pub holds : Session → Bool
 holds t =
-    let fed = feed small (powered (t .options) (t .memory)) (t .bytes) in
-    same (joined (fed .answers)) (t .answers)
+    let fed = feed (t .chip) (powered (t .options) (t .memory)) (t .bytes) in
+    same (allBytes (fed .answers)) (t .answers)
     && eqb (phaseNumber (fed .state .phase)) (t .phase)
     && sameOptions (fed .state .options) (t .optionsAfter)
     && sameMemory (fed .state .memory) (t .memoryAfter)
@@ -58,6 +61,7 @@ opened = 0x02 ∷ 0x03 ∷ 0x06 ∷ 0x20 ∷ 0x00 ∷ 0xD7 ∷ 0x03 ∷ []
 abbrev session : Options → Memory → List ℕ → List ℕ → Memory → Session
 session o m bytes answers after =
     record {
+      chip = small;
       options = o;
       memory = m;
       bytes = opening ++ bytes;
@@ -183,6 +187,7 @@ pair a b = frame dataStart lastEnd (a ∷ b ∷ [])
 abbrev ending : ℕ → Options → Options → Memory → List ℕ → List ℕ → Session
 ending phase o after m bytes answers =
     record {
+      chip = small;
       options = o;
       memory = m;
       bytes = bytes;
@@ -324,6 +329,7 @@ further =
 -- ---- sheets: the verdict, and what a play on that chip comes to, by the meaning and by the clean run ----
 
 pub record Play : Type 0 where
+  pub chip : Chip
   pub options : Options
   pub memory : Memory
   pub sheet : List ℕ
@@ -366,19 +372,18 @@ ranTo j t =
     && same (j .sums) (t .sums)
     && sameOptions (j .state .options) (t .options)
     && sameMemory (j .state .memory) (t .memoryAfter)
-    && waits small (j .state)
+    && waits (t .chip) (j .state)
 
-abbrev waiting : Options → Memory → State
-waiting o m =
-    feed small (powered o m) opening .state
+abbrev waiting : Chip → Options → Memory → State
+waiting chip o m = feed chip (powered o m) opening .state
 
 unfoldable pub plays : Play → Bool
 plays t =
-    let said = verdictNumber (verdict small (t .sheet) 4) in
-    let e = meaning small (t .sheet) (t .options) (t .memory) noSums in
-    let ran =
-    run clean small (t .sheet) (joinedAtStart (waiting (t .options) (t .memory)) (replicate 260 0) (replicate 16 0) noSums) in
-    let both = meant e t && ran .ended && ranTo (ran .joined) t in
+    let said = verdictNumber (verdict (t .chip) (t .sheet) 4) in
+    let e = meaning (t .chip) (t .sheet) (t .options) (t .memory) noSums in
+    let start = joinedAtStart (waiting (t .chip) (t .options) (t .memory)) (replicate 260 0) (replicate 16 0) noSums in
+    let ran = run clean (t .chip) (t .sheet) start in
+    let both = meant e t && ran .complete && ranTo (ran .reached) t in
     sameNumber said (t .verdict) && cond (eqb (t .verdict .letter) 0) both true
 
 unfoldable pub allPlay : List Play → Bool
@@ -396,6 +401,7 @@ accepted = record { letter = 0; number = 0 }
 abbrev refusedAs : ℕ → List ℕ → Play
 refusedAs n s =
     record {
+      chip = small;
       options = freshOptions;
       memory = blankFlash;
       sheet = s;
@@ -411,6 +417,7 @@ refusedAs n s =
 abbrev playing : Options → Memory → List ℕ → ℕ → ℕ → ℕ → ℕ → List ℕ → Memory → Play
 playing o m s status steps frames pieces sums after =
     record {
+      chip = small;
       options = o;
       memory = m;
       sheet = s;

@@ -1,5 +1,12 @@
 // The vocabulary: the types that promises speak of. What they mean stands in specs/, in document 01's order.
 
+pub mod numbers;
+
+// The bytes of the longest frame, which a frame buffer has room for, and the least bytes of a reply buffer.
+pub const FRAME_ROOM: usize = 260;
+
+pub const REPLY_ROOM: usize = 16;
+
 // Our chip: how many blocks its code flash and its data flash have.
 pub struct Chip {
     pub code: u16,
@@ -61,9 +68,31 @@ pub enum Task {
 }
 
 // A row of the command table: the length that a code must have, and the number of the phase that allows it.
-pub enum Known {
+pub enum CodeRow {
     Row { len: u8, phase: u8 },
     Unknown,
+}
+
+// A command whose information is read: the blocks, flags and words that it names. The ten bytes of an ID stay in its frame.
+pub enum Order {
+    Reset,
+    Verify(Flash, Block, Block),
+    Erase(Flash, Block),
+    Program(Flash, Block, Block),
+    BaudRate,
+    Identity,
+    SecuritySet(u8, u8),
+    SecurityGet,
+    Release,
+    WindowSet(u16, u16),
+    WindowGet,
+    Checksum(Flash, Block, Block),
+}
+
+// The information of a command frame: an order, or not valid (05h).
+pub enum Decoded {
+    Is(Order),
+    Bad,
 }
 
 // The verdict on a frame: the first row of 01's status table that applies.
@@ -79,6 +108,12 @@ pub enum Fault {
     Protected,
     PageNotBlank,
     Difference,
+}
+
+// A command frame judged: its first fault, or the order to be done.
+pub enum Judged {
+    Faulty(Fault),
+    Ordered(Order),
 }
 
 // The refusals that 01 numbers.

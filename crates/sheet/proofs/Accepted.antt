@@ -7,24 +7,23 @@ use native.Mathlib.Omega.{arith}
 use lib.Dec.{ltb, leb, eqb}
 use lib.ListN.{length, drop, length-drop}
 use lib.Seq.{length-take-le}
-use borrow.Author.Tests.{ltb-false, leb-true, eqb-true, eqb-false, not-false, le-ltb}
-use Rattle.finder.proofs.Geometry.{blocks-in-pages}
+use borrow.Author.Tests.{ltb-false, leb-true, eqb-true, eqb-false, not-false}
+use Rattle.chip_finder.proofs.Geometry.{blocks-in-pages}
 use Rattle.rules.specs.declared.Chip.{Chip}
 use Rattle.rules.specs.declared.Kind.the-variants.{Erase, Write, Verify, Sum}
 use Rattle.rules.specs.declared.Range.the-variants.{Blocks}
 use Rattle.rules.specs.declared.Step.{Step}
 use Rattle.rules.specs.declared.Verdict.the-variants.{Accepted}
 use Rattle.rules.specs.Chip.{blocks, blockSize, pageSize}
-use Rattle.rules.specs.Sheet.{count, tableEnd, kindAt, sadAt, eadAt, offsetAt, offsetDue, rangeAt, bodyLength, bodyEnd, verdict, kindOf, stepOf, stepAt, stepBlocks, stepPages, bodyPage}
+use Rattle.rules.specs.Sheet.{headSize, count, tableEnd, mostBytes, lastKind, kindAt, sadAt, eadAt, offsetAt, offsetDue, rangeAt, bodyLength, bodyEnd, verdict, kindOf, stepOf, stepAt, stepBlocks, stepPages, bodyPage}
 use Rattle.rules.specs.Numbers.{kindNumber}
-use Rattle.rules.proofs.Sheet.{EntryAllowed, accepted-allowed, allowed-accepted}
-use Rattle.rules.proofs.Choices.{both}
+use Rattle.rules.proofs.Sheet.{EntryAllowed, sheet-accepted, accepted-allowed}
+use Rattle.rules.proofs.Choices.{both, neither}
 use Rattle.sheet.specs.declared.Reading.the-variants.{Is}
 use Rattle.sheet.specs.Reading.{readingAt}
-use Rattle.entries.specs.Entry.{lengthOf}
-use Rattle.entries.proofs.Fields.{one-span}
+use Rattle.sheet.specs.Entry.{lengthOf}
+use Rattle.sheet.proofs.Fields.{one-span}
 use Rattle.sheet.proofs.Ranges.{Ranged, ranged}
-use Rattle.sheet.proofs.Tests.{neither}
 use Rattle.sheet.proofs.Verdicts.{step-there}
 
 -- ---- the number of a kind ----
@@ -38,13 +37,18 @@ kind-number k low high = go (eqb k 1) (eqb k 2) (eqb k 3) refl refl refl
     go false false true p q r = sym (eqb-true k 3 r)
     go false false false p q r = omega (arith, eqb-false k 1 p, eqb-false k 2 q, eqb-false k 3 r)
 
+-- and of a kind that a sheet may have
+kind-numbered : (s : List ℕ) (k : ℕ) → 1 ≤ k → k ≤ lastKind s → kindNumber (kindOf k) ≡ k
+unfolding lastKind
+kind-numbered s k low high = kind-number k low high
+
 -- ---- the head ----
 
 -- what is known of the bytes of an accepted sheet
 pub record Whole (s : List ℕ) (room : ℕ) : Type 0 where
   pub steps : count s ≤ 64
   pub sums : count s ≤ room
-  pub bytes : length s ≤ 65536
+  pub bytes : length s ≤ mostBytes s
   pub table : tableEnd s ≤ length s
   pub end : length s ≡ offsetDue s (count s)
 
@@ -57,7 +61,7 @@ Inside s t = t .body + stepBlocks t * blockSize (t .flash) ≤ length s
 -- what is known of step i, `t`
 pub record Sound (chip : Chip) (s : List ℕ) (i : ℕ) (t : Step) : Type 0 where
   pub kind-low : 1 ≤ kindAt s i
-  pub kind-high : kindAt s i ≤ 4
+  pub kind-high : kindAt s i ≤ lastKind s
   pub kind : t .kind ≡ kindOf (kindAt s i)
   pub body : t .body ≡ offsetAt s i
   pub offset : offsetAt s i ≡ offsetDue s i
@@ -82,10 +86,10 @@ body-length s i h g = one-span (kindAt s i) (sadAt s i) (eadAt s i) h g
 pub entry-sound : (chip : Chip) (s : List ℕ) (i : ℕ) → EntryAllowed chip s i → Sound chip s i (stepAt chip s i)
 entry-sound chip s i a =
     let r = ranged chip (sadAt s i) (eadAt s i) (a .j6) in
-    let k = both (leb 1 (kindAt s i)) (leb (kindAt s i) 4) (not-false (leb 1 (kindAt s i) && leb (kindAt s i) 4) (a .j4)) in
+    let k = both (leb 1 (kindAt s i)) (leb (kindAt s i) (lastKind s)) (not-false (leb 1 (kindAt s i) && leb (kindAt s i) (lastKind s)) (a .j4)) in
     let low : 1 ≤ kindAt s i = leb-true 1 (kindAt s i) (k .0) in
-    let high : kindAt s i ≤ 4 = leb-true (kindAt s i) 4 (k .1) in
-    let numbered = kind-number (kindAt s i) low high in
+    let high : kindAt s i ≤ lastKind s = leb-true (kindAt s i) (lastKind s) (k .1) in
+    let numbered = kind-numbered s (kindAt s i) low high in
     let end : bodyEnd s i ≤ length s = ltb-false (length s) (bodyEnd s i) (a .j8) in
     let inside : 2 ≤ kindAt s i → kindAt s i ≤ 3 → offsetAt s i + (r .last .0 + 1 - r .first .0) * blockSize (r .flash) ≤ length s =
     λ g h. omega (arith, r .bytes, body-length s i g h) in
@@ -112,32 +116,19 @@ module _ (chip : Chip) (s : List ℕ) (room : ℕ) (ok : verdict chip s room ≡
   whole =
       let a = accepted-allowed chip s room ok in
       record {
-        steps = ltb-false 64 (count s) (a .j2);
+        steps = ltb-false 64 (count s) (a .sheet .j2);
         sums = ltb-false room (count s) (a .j10);
-        bytes = ltb-false 65536 (length s) (neither (ltb (length s) 2) (ltb 65536 (length s)) (a .j1) .1);
-        table = ltb-false (length s) (tableEnd s) (a .j3);
-        end = eqb-true (length s) (offsetDue s (count s)) (not-false (eqb (length s) (offsetDue s (count s))) (a .j9));
+        bytes = ltb-false (mostBytes s) (length s) (neither (ltb (length s) (headSize s)) (ltb (mostBytes s) (length s)) (a .sheet .j1) .1);
+        table = ltb-false (length s) (tableEnd s) (a .sheet .j3);
+        end = eqb-true (length s) (offsetDue s (count s)) (not-false (eqb (length s) (offsetDue s (count s))) (a .sheet .j9));
       }
 
   pub sound : (i : ℕ) → i < count s → Sound chip s i (stepAt chip s i)
-  sound i h = entry-sound chip s i (accepted-allowed chip s room ok .entries i h)
+  sound i h = entry-sound chip s i (accepted-allowed chip s room ok .sheet .entries i h)
 
-  -- it is accepted with just the room that it asks for, so that each of its steps is read
-  pub asked-room : verdict chip s (count s) ≡ Accepted
-  asked-room =
-      let a = accepted-allowed chip s room ok in
-      allowed-accepted chip s (count s)
-      (record {
-        j1 = a .j1;
-        j2 = a .j2;
-        j3 = a .j3;
-        entries = a .entries;
-        j9 = a .j9;
-        j10 = le-ltb (count s) (count s) (omega arith);
-      })
-
+  -- each of its steps is read
   pub step-read : (i : ℕ) → i < count s → readingAt chip s i ≡ Is (stepAt chip s i)
-  step-read i h = step-there chip s i asked-room h
+  step-read i h = step-there chip s i (sheet-accepted chip s room ok) h
 
 -- ---- the pages of a body ----
 

@@ -1,5 +1,5 @@
+pub mod Fields
 pub mod Accepted
 pub mod Entries
 pub mod Ranges
-pub mod Tests
 pub mod Verdicts

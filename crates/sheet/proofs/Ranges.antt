@@ -1,6 +1,6 @@
 -- Laws of an address pair that is a range: its blocks are there, and its bytes are theirs. Assumes nothing.
-use mathlib.Core.Path.{_≡_, refl, _∙_}
-use mathlib.Core.Bool.{Bool, true, false}
+use mathlib.Core.Path.{_≡_, refl, sym, _∙_}
+use mathlib.Core.Bool.{Bool, true, false, false≢true}
 use Prim.Native.Nat.{ℕ, _+_, _-_, _*_, _/_, _%_, _<_, _≤_}
 use native.Mathlib.Nat.{div-add-mod', div-lt-iff-lt-mul, mul-sub, mul-comm, add-mul}
 use native.Mathlib.Omega.{arith}
@@ -13,9 +13,8 @@ use Rattle.rules.specs.declared.Address.{Address}
 use Rattle.rules.specs.declared.Block.{Block}
 use Rattle.rules.specs.declared.Range.the-variants.{Blocks}
 use Rattle.rules.specs.Chip.{start, blocks, blockSize, blockAt, blocksFrom, flashSize, within, begins, ends, pairIn, range, invalid}
-use Rattle.rules.proofs.Choices.{both}
-use Rattle.finder.proofs.Geometry.{size-bounds}
-use Rattle.sheet.proofs.Tests.{apart, all-five}
+use Rattle.rules.proofs.Choices.{both, each-of-five}
+use Rattle.chip_finder.proofs.Geometry.{size-bounds}
 
 -- ---- from the first byte of a part to the last byte of a part, over their size ----
 
@@ -56,7 +55,7 @@ module _ (chip : Chip) (sad ead : Address) where
       let x = sad .0 - start f in
       let y = ead .0 - start f in
       let z = start f + flashSize chip f in
-      let h = all-five o w v (begins f sad) (ends f ead) t in
+      let h = each-of-five o w v (begins f sad) (ends f ead) t in
       let order : sad .0 ≤ ead .0 = leb-true (sad .0) (ead .0) (h .0) in
       let above : start f ≤ sad .0 = leb-true (start f) (sad .0) (both (leb (start f) (sad .0)) (ltb (sad .0) z) (h .1) .0) in
       let below : ead .0 < z = ltb-true (ead .0) z (both (leb (start f) (ead .0)) (ltb (ead .0) z) (h .2) .1) in
@@ -80,4 +79,4 @@ module _ (chip : Chip) (sad ead : Address) where
       go : (a b : Bool) → pairIn chip Code sad ead ≡ a → pairIn chip Data sad ead ≡ b → Ranged chip sad ead
       go true b p q = one-flash Code p (rw p)
       go false true p q = one-flash Data q (rw (p, q))
-      go false false p q = apart (rw (p, q) at h)
+      go false false p q = absurd (false≢true (sym (rw (p, q) at h)))

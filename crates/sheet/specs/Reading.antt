@@ -6,7 +6,7 @@ use lib.Dec.{ltb}
 use Rattle.rules.specs.declared.Chip.{Chip}
 use Rattle.rules.specs.declared.Verdict.{Verdict}
 use Rattle.rules.specs.declared.Verdict.the-variants.{Accepted, Refused}
-use Rattle.rules.specs.Sheet.{count, stepAt, verdict}
+use Rattle.rules.specs.Sheet.{count, sheetVerdict, stepAt}
 use Rattle.sheet.specs.declared.Reading.{Reading}
 use Rattle.sheet.specs.declared.Reading.the-variants.{Is, NoStep}
 
@@ -14,6 +14,6 @@ abbrev reading : Verdict → Reading → Reading
 reading Accepted r = r
 reading (Refused n) r = NoStep
 
--- the step of an accepted sheet (the list of sums has the room that the sheet asks for), or none
+-- the step of a sheet that keeps its own rules, or none
 unfoldable pub readingAt : Chip → List ℕ → ℕ → Reading
-readingAt chip s i = reading (verdict chip s (count s)) (cond (ltb i (count s)) (Is (stepAt chip s i)) NoStep)
+readingAt chip s i = reading (sheetVerdict chip s) (cond (ltb i (count s)) (Is (stepAt chip s i)) NoStep)

@@ -1,36 +1,44 @@
 // The rules: J1 to J10 in the order of the document, each with its own return. No body is read.
-use entries::Entry;
-use entries::body_end;
-use entries::count;
-use entries::entry_at;
-use entries::offset_due;
-use entries::table_end;
-use finder::range;
+use crate::table::Entry;
+use crate::table::body_end;
+use crate::table::count;
+use crate::table::entry_at;
+use crate::table::head_size;
+use crate::table::offset_due;
+use crate::table::table_end;
+use chip_finder::is_invalid;
+use chip_finder::range;
 use rules::Chip;
-use rules::Range;
 use rules::Refusal;
 use rules::Verdict;
 ghost use mathlib.Core.Path.{_≡_};
 ghost use Prim.Native.Nat.{ℕ};
-ghost use Rattle.rules.specs.Chip.{invalid};
-ghost use Rattle.rules.specs.Sheet.{offsetDue, headVerdict, entryVerdict, entriesVerdict, tailVerdict, verdict};
-ghost use Rattle.entries.specs.Entry.{entryIn};
+ghost use Rattle.rules.specs.Sheet.{mostBytes, lastKind, offsetDue, J9, headVerdict, entryVerdict, entriesVerdict, sheetVerdict, verdict};
+ghost use Rattle.sheet.specs.Entry.{entryIn};
 
-// How many bytes a sheet has at least and at most, and how many steps at most.
-const LEAST_BYTES: usize = 2;
-
-const MOST_BYTES: usize = 65536;
-
+// How many steps a sheet has at most, how many bytes, and the number of its last kind.
 const MOST_STEPS: usize = 64;
+
+fn most_bytes(sheet: &[u8]) -> usize
+    ensures { λ r. ⌜ r ≡ mostBytes (now (sheet .entry)) ⌝ }
+{
+    65536
+}
+
+fn last_kind(sheet: &[u8]) -> u8
+    ensures { λ r. ⌜ r ≡ lastKind (now (sheet .entry)) ⌝ }
+{
+    4
+}
 
 // J1 to J3: the length, the count, and the table.
 fn head_verdict(sheet: &[u8]) -> Verdict
     ensures { λ r. ⌜ r ≡ headVerdict (now (sheet .entry)) ⌝ }
 {
-    if sheet.len() < LEAST_BYTES {
+    if sheet.len() < head_size(sheet) {
         return Verdict::Refused(Refusal::J1);
     }
-    if MOST_BYTES < sheet.len() {
+    if most_bytes(sheet) < sheet.len() {
         return Verdict::Refused(Refusal::J1);
     }
     let n = count(sheet);
@@ -44,28 +52,20 @@ fn head_verdict(sheet: &[u8]) -> Verdict
     Verdict::Accepted
 }
 
-fn is_invalid(range: Range) -> bool
-    ensures { λ r. ⌜ r ≡ invalid range ⌝ }
-{
-    match range {
-        Range::Blocks(_, _, _) => false,
-        Range::Invalid => true,
-    }
-}
-
 // J4 to J8 of an entry, given the offset that it must say: the rules in order.
 fn entry_verdict(chip: Chip, sheet: &[u8], e: Entry, due: usize) -> Verdict
     ensures { λ r. ⌜ ((i : ℕ) → e ≡ entryIn (now (sheet .entry)) i → due ≡ offsetDue (now (sheet .entry)) i → r ≡ entryVerdict chip (now (sheet .entry)) i) ⌝ }
 {
     let kind = e.kind;
     let zero = e.zero;
+    let last = last_kind(sheet);
     let no_pair = is_invalid(range(chip, e.sad, e.ead));
     let offset = e.offset as usize;
     let end = body_end(e);
     if kind < 1 {
         return Verdict::Refused(Refusal::J4);
     }
-    if 4 < kind {
+    if last < kind {
         return Verdict::Refused(Refusal::J4);
     }
     if zero != 0 {
@@ -101,25 +101,17 @@ fn entries_verdict(chip: Chip, sheet: &[u8], n: usize) -> Verdict
     Verdict::Accepted
 }
 
-// J9 and J10: bytes left over, and the room for sums.
-fn tail_verdict(sheet: &[u8], room: usize) -> Verdict
-    ensures { λ r. ⌜ r ≡ tailVerdict (now (sheet .entry)) room ⌝ }
+// J9: bytes are left over behind the last body.
+fn left_over(sheet: &[u8]) -> bool
+    ensures { λ r. ⌜ r ≡ J9 (now (sheet .entry)) ⌝ }
 {
-    let n = count(sheet);
-    let end = offset_due(sheet, n);
-    let left_over = sheet.len() != end;
-    if left_over {
-        return Verdict::Refused(Refusal::J9);
-    }
-    if room < n {
-        return Verdict::Refused(Refusal::J10);
-    }
-    Verdict::Accepted
+    let end = offset_due(sheet, count(sheet));
+    sheet.len() != end
 }
 
-// The verdict on a sheet, with room for so many sums.
-pub fn verdict(chip: Chip, sheet: &[u8], room: usize) -> Verdict
-    ensures { λ r. ⌜ r ≡ verdict chip (now (sheet .entry)) room ⌝ }
+// The sheet's own rules, J1 to J9.
+pub fn sheet_verdict(chip: Chip, sheet: &[u8]) -> Verdict
+    ensures { λ r. ⌜ r ≡ sheetVerdict chip (now (sheet .entry)) ⌝ }
 {
     if let Verdict::Refused(refusal) = head_verdict(sheet) {
         return Verdict::Refused(refusal);
@@ -127,5 +119,21 @@ pub fn verdict(chip: Chip, sheet: &[u8], room: usize) -> Verdict
     if let Verdict::Refused(refusal) = entries_verdict(chip, sheet, count(sheet)) {
         return Verdict::Refused(refusal);
     }
-    tail_verdict(sheet, room)
+    if left_over(sheet) {
+        return Verdict::Refused(Refusal::J9);
+    }
+    Verdict::Accepted
+}
+
+// The verdict on a sheet, with room for so many sums: its own rules, then J10.
+pub fn verdict(chip: Chip, sheet: &[u8], room: usize) -> Verdict
+    ensures { λ r. ⌜ r ≡ verdict chip (now (sheet .entry)) room ⌝ }
+{
+    if let Verdict::Refused(refusal) = sheet_verdict(chip, sheet) {
+        return Verdict::Refused(refusal);
+    }
+    if room < count(sheet) {
+        return Verdict::Refused(Refusal::J10);
+    }
+    Verdict::Accepted
 }

@@ -3,6 +3,8 @@ use rules::Step;
 
 pub mod judge;
 pub mod read;
+pub mod steps;
+pub mod table;
 
 // Step i of a sheet, or that there is none: the sheet is refused, or has no such step.
 pub enum Reading {

@@ -1,5 +1,5 @@
-pub mod Onward
+pub mod FeedingAdvances
 pub mod Opens
 pub mod Outcomes
-pub mod Whole
 pub mod Powers
+pub mod Whole

@@ -9,8 +9,8 @@ use Rattle.rules.specs.declared.Options.{Options}
 use Rattle.rules.specs.Chip.{over}
 use Rattle.rules.specs.Frame.{commandStart, lastEnd, frame}
 use Rattle.rules.specs.Options.{IDEN}
-use Rattle.wire.specs.Buffer.{put, putFrame}
-use Rattle.wire.proofs.Buffers.{buffer-put, frame-fits, length-frame}
+use Rattle.frame_build.specs.Buffer.{put, putFrame}
+use Rattle.frame_build.proofs.Buffers.{buffer-put, frame-fits, length-frame}
 use Rattle.standin.specs.Opening.{speedBytes, openingBytes}
 
 -- a buffer just long enough for a frame is the frame

@@ -4,7 +4,7 @@ use mathlib.Core.List.{List}
 use Prim.Native.Nat.{ℕ}
 use Rattle.rules.specs.declared.Call.{Call}
 use Rattle.rules.specs.StandIn.{State, Outcome, Powered}
-use Rattle.engine.specs.View.{came}
+use Rattle.standin_engine.specs.View.{callOutcome}
 use Rattle.standin.specs.Feeding.{Feeding, feeding}
 
 -- what two states have in common that are the same: phase, command begun, options, what is half received, both flashes
@@ -27,8 +27,8 @@ agree s t e =
 
 -- a byte call
 pub one-answer : (due : Outcome) (s t : State) (a b : Call) (x y : List ℕ)
-    → came s a x ≡ due
-    → came t b y ≡ due
+    → callOutcome s a x ≡ due
+    → callOutcome t b y ≡ due
     → (a ≡ b) × Agree s t × (x ≡ y)
 one-answer due s t a b x y p q =
     let e = p ∙ sym q in

@@ -3,23 +3,24 @@
 use mathlib.Core.Path.{_≡_, refl, sym, ap, _∙_}
 use mathlib.Core.Bool.{Bool, true, false, _&&_}
 use mathlib.Core.List.{List, [], _∷_, _++_, append-assoc, append-nil}
-use Prim.Native.Nat.{ℕ, zero, suc, _+_, _≤_}
+use Prim.Native.Nat.{ℕ, zero, suc, _+_}
 use native.Mathlib.Nat.{zero-add}
 use native.Mathlib.Omega.{arith}
 use lib.Dec.{leb, eqb}
 use lib.ListN.{length, replicate, length-append, List·getD-append}
 use borrow.Author.Tests.{eqb-true, leb-true, ne-eqb}
 use Rattle.rules.specs.declared.Chip.{Chip}
-use Rattle.rules.specs.declared.Flash.the-variants.{Code, Data}
 use Rattle.rules.specs.declared.Call.the-variants.{Answer}
-use Rattle.rules.specs.Chip.{fits, over}
+use Rattle.rules.specs.Chip.{over}
 use Rattle.rules.specs.Frame.{lenOf, frameSize, whole}
 use Rattle.rules.specs.Command.{phaseNumber}
 use Rattle.rules.specs.StandIn.{State, Out, rest, holding, startOf, taskNow, onFrame, step, feed}
-use Rattle.rules.specs.Run.{joined}
+use Rattle.rules.specs.Run.{allBytes}
 use Rattle.rules.proofs.Choices.{both}
 use Rattle.standin.specs.Feeding.{feeding, feedFrom, fedInto}
-use Rattle.engine.proofs.Receives.{begun, more, frame-step, taken}
+use Rattle.standin_state.specs.View.{Fits}
+use Rattle.standin_state.proofs.Lending.{fits-lent}
+use Rattle.standin_engine.proofs.Receives.{begun, more, frame-step, taken}
 
 -- a beginning of a whole frame is none
 beginning : (p q : List ℕ) → (length q ≡ 0 → ⊥) → whole (p ++ q) ≡ true → whole p ≡ false
@@ -102,21 +103,21 @@ module _ (chip : Chip) (s : State) (listens : phaseNumber (s .phase) ≡ 4 → �
       l bs refl
 
   -- a byte fed into a buffer with room for any answer
-  fed-one : (out : List ℕ) → fits chip (s .memory) Code ≡ true → fits chip (s .memory) Data ≡ true → 16 ≤ length out
+  fed-one : (out : List ℕ) → Fits chip (s .memory .code) (s .memory .«data») out
       → (g : List ℕ) (b : ℕ) (bs : List ℕ) (n : ℕ) (o : Out) → step chip (with g) b ≡ o
       → feedFrom chip (with g) out 0 n (b ∷ bs) ≡ feedFrom chip (o .state) (over (o .answer) out) (length (o .answer)) (n + 1) bs
   unfolding feedFrom
-  fed-one out code «data» room g b bs n o e =
-      rw (← taken chip (with g) b out code «data» room, e, zero-add (length (o .answer)))
+  fed-one out lent g b bs n o e =
+      rw (← taken chip (with g) b out (fits-lent chip (s .memory .code) (s .memory .«data») out lent), e, zero-add (length (o .answer)))
 
   pub fed-frame : s .got ≡ [] → (l : ℕ) (bs : List ℕ) → let f = startOf (taskNow chip (s .phase) (s .task)) ∷ l ∷ bs in
       whole f ≡ true
-      → (out : List ℕ) → fits chip (s .memory) Code ≡ true → fits chip (s .memory) Data ≡ true → 16 ≤ length out
+      → (out : List ℕ) → Fits chip (s .memory .code) (s .memory .«data») out
       → fedInto chip s out f ≡ feeding (done f .state) (Answer (length (done f .answer))) (length f) (over (done f .answer) out)
   unfolding feedFrom over
-  fed-frame none l bs w out code «data» room =
+  fed-frame none l bs w out lent =
       let f = startOf (taskNow chip (s .phase) (s .task)) ∷ l ∷ bs in
-      let one = fed-one out code «data» room in
+      let one = fed-one out lent in
       ap (λ (g : List ℕ). fedInto chip (with g) out f) none
       ∙ by-frame f w
       (λ g b cs. (n k : ℕ) → k ≡ n + suc (length cs) → feedFrom chip (with g) out 0 n (b ∷ cs) ≡ feeding (done f .state) (Answer (length (done f .answer))) k (over (done f .answer) out))
@@ -125,7 +126,7 @@ module _ (chip : Chip) (s : State) (listens : phaseNumber (s .phase) ≡ 4 → �
       l bs refl 0 (length f) (omega arith)
 
 -- only the last byte answers: all bytes answered are those of the frame
-pub joined-told : (n : ℕ) (a : List ℕ) → joined (replicate n [] ++ (a ∷ [])) ≡ a
-unfolding joined
-joined-told zero a = append-nil a
-joined-told (suc n) a = joined-told n a
+pub all-told : (n : ℕ) (a : List ℕ) → allBytes (replicate n [] ++ (a ∷ [])) ≡ a
+unfolding allBytes
+all-told zero a = append-nil a
+all-told (suc n) a = all-told n a

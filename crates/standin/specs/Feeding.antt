@@ -5,7 +5,10 @@ use lib.ListN.{take, drop}
 use Rattle.rules.specs.declared.Chip.{Chip}
 use Rattle.rules.specs.declared.Call.{Call}
 use Rattle.rules.specs.declared.Call.the-variants.{Refused, Answer}
+use Rattle.rules.specs.Chip.{Memory}
 use Rattle.rules.specs.StandIn.{State, byteCall}
+use Rattle.standin_engine.specs.View.{view}
+use Rattle.standin.specs.declared.feeding.Fed.{Fed}
 
 -- the state, the number of bytes answered or the refusal, how many bytes were taken, and the buffer of answers
 pub record Feeding : Type 0 where
@@ -16,6 +19,10 @@ pub record Feeding : Type 0 where
 
 abbrev pub feeding : State → Call → ℕ → List ℕ → Feeding
 feeding s call n out = record { state = s; call = call; taken = n; answers = out }
+
+-- what a feeding came to
+abbrev pub fedAs : Fed → List ℕ → Memory → List ℕ → Feeding
+fedAs f frame m out = feeding (view (f .core) frame m) (f .call) (f .taken) out
 
 -- a call's answer stands behind the w bytes answered before it; the first refusal ends the feeding
 abbrev pub goesOn : Call → Feeding → (ℕ → Feeding) → Feeding

@@ -1,18 +1,19 @@
--- What a whole device shows. Assumes nothing.
-use mathlib.Core.Bool.{cond}
-use lib.Dec.{eqb}
-use Rattle.rules.specs.declared.Options.{Options}
-use Rattle.rules.specs.declared.Phase.{Phase}
-use Rattle.rules.specs.declared.Phase.the-variants.{Mode, Silent}
+-- What a whole device shows, and what its calls came to. Assumes nothing.
+use Prim.Native.Nat.{ℕ}
+use mathlib.Core.List.{List}
 use Rattle.rules.specs.Chip.{Memory}
-use Rattle.rules.specs.Options.{IFPR}
-use Rattle.rules.specs.StandIn.{State}
-use Rattle.engine.specs.View.{view}
+use Rattle.rules.specs.StandIn.{State, Powered, Outcome}
+use Rattle.standin_engine.specs.View.{view, callOutcome}
 use Rattle.standin.specs.declared.call.Device.{Device}
+use Rattle.standin.specs.declared.call.Answered.{Answered}
 
 abbrev pub shows : Device → Memory → State
-shows d m = view (d .core) (d .frame) m
+shows d m = view (d .core) (d .held) m
 
--- the phase after a power-on
-abbrev pub poweredPhase : Options → Phase
-poweredPhase o = cond (eqb (IFPR o) 0) Silent Mode
+-- a power-on
+abbrev pub poweredAs : Answered → Memory → Powered
+poweredAs a m = record { state = shows (a .device) m; call = a .call }
+
+-- a byte call
+abbrev pub answeredAs : Answered → Memory → List ℕ → Outcome
+answeredAs a m reply = callOutcome (shows (a .device) m) (a .call) reply

@@ -1,12 +1,12 @@
 // Feeding a slice of bytes: one byte call after the other.
-use device::Core;
-use engine::Change;
 use rules::Call;
 use rules::Chip;
+use standin_engine::Change;
+use standin_state::Core;
 ghost use mathlib.Core.Path.{_≡_};
-ghost use Rattle.finder.specs.Lent.{memory};
-ghost use Rattle.engine.specs.View.{view};
-ghost use Rattle.standin.specs.Feeding.{feeding, fedInto};
+ghost use Rattle.chip_finder.specs.LentFlashes.{memory};
+ghost use Rattle.standin_engine.specs.View.{view};
+ghost use Rattle.standin.specs.Feeding.{fedAs, fedInto};
 
 // The device after the bytes, how many bytes it answered or the first refusal, and how many bytes it took.
 pub struct Fed {
@@ -21,18 +21,26 @@ pub fn feed(
     chip: Chip,
     c: Core,
     bytes: &[u8],
-    frame: &mut [u8; 260],
+    held: &mut [u8; 260],
     code: &mut [u8],
     data: &mut [u8],
     answers: &mut [u8],
 ) -> Fed
-    ensures { λ r. ⌜ feeding (view (r .core) (now (frame .exit)) (memory (now (code .exit)) (now («data» .exit)))) (r .call) (r .taken) (now (answers .exit)) ≡ fedInto chip (view c (now (frame .entry)) (memory (now (code .entry)) (now («data» .entry)))) (now (answers .entry)) (now (bytes .entry)) ⌝ }
+    ensures { λ r. ⌜ fedAs r (now (held .exit)) (memory (now (code .exit)) (now («data» .exit))) (now (answers .exit)) ≡ fedInto chip (view c (now (held .entry)) (memory (now (code .entry)) (now («data» .entry)))) (now (answers .entry)) (now (bytes .entry)) ⌝ }
 {
     let mut core = c;
     let mut w = 0;
     let mut i = 0;
     while i < bytes.len() {
-        let changed = engine::hear(chip, core, bytes[i], frame, code, data, &mut answers[w..]);
+        let changed = standin_engine::byte_change(
+            chip,
+            core,
+            bytes[i],
+            held,
+            code,
+            data,
+            &mut answers[w..],
+        );
         match changed {
             Change::Refused(refusal) => {
                 return Fed {
@@ -46,7 +54,7 @@ pub fn feed(
                 i += 1;
                 continue;
             }
-            Change::Heard(h) => {
+            Change::Whole(h) => {
                 core = h.core;
                 w = w + h.answered;
             }

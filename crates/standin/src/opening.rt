@@ -1,22 +1,22 @@
 // The opening: a chip that was powered on is brought to phase Command.
 use super::feeding;
-use device::Core;
 use rules::Chip;
+use standin_state::Core;
 ghost use mathlib.Core.Path.{_≡_};
 ghost use mathlib.Core.List.{_∷_, _++_};
 ghost use Rattle.rules.specs.Frame.{frame};
-ghost use Rattle.finder.specs.Lent.{memory};
-ghost use Rattle.engine.specs.View.{view};
-ghost use Rattle.standin.specs.Feeding.{feeding, fedInto};
+ghost use Rattle.chip_finder.specs.LentFlashes.{memory};
+ghost use Rattle.standin_engine.specs.View.{view};
+ghost use Rattle.standin.specs.Feeding.{fedAs, fedInto};
 ghost use Rattle.standin.specs.Opening.{speedBytes, openingBytes};
 
 // 9Ch and the ID: the body of its frame.
 fn ident_body(id: &[u8; 10]) -> [u8; 11]
     ensures { λ r. ⌜ r ≡ 0x9C ∷ now (id .entry) ⌝ }
 {
-    let mut body = [0x9Cu8; 11];
+    let mut body = [frame_build::IDENT; 11];
     let sent: &[u8] = id;
-    spans::copy(&mut body[1..11], sent);
+    octets::copy(&mut body[1..11], sent);
     body
 }
 
@@ -50,7 +50,7 @@ fn all_bytes(id: &[u8; 10]) -> [u8; 23]
         0,
         0,
     ];
-    wire::build::put_frame(&mut bytes[8..23], 0x01, 0x03, &body);
+    frame_build::put_frame(&mut bytes[8..23], 0x01, 0x03, &body);
     bytes
 }
 
@@ -59,18 +59,18 @@ pub fn open(
     chip: Chip,
     c: Core,
     id: &[u8; 10],
-    frame: &mut [u8; 260],
+    held: &mut [u8; 260],
     code: &mut [u8],
     data: &mut [u8],
     answers: &mut [u8],
 ) -> feeding::Fed
-    ensures { λ r. ⌜ feeding (view (r .core) (now (frame .exit)) (memory (now (code .exit)) (now («data» .exit)))) (r .call) (r .taken) (now (answers .exit)) ≡ fedInto chip (view c (now (frame .entry)) (memory (now (code .entry)) (now («data» .entry)))) (now (answers .entry)) (openingBytes (c .options) (now (id .entry))) ⌝ }
+    ensures { λ r. ⌜ fedAs r (now (held .exit)) (memory (now (code .exit)) (now («data» .exit))) (now (answers .exit)) ≡ fedInto chip (view c (now (held .entry)) (memory (now (code .entry)) (now («data» .entry)))) (now (answers .entry)) (openingBytes (c .options) (now (id .entry))) ⌝ }
 {
     let bytes = all_bytes(id);
     let all: &[u8] = &bytes;
     let o = c.options;
-    if options::iden(o) == 0 {
-        return feeding::feed(chip, c, all, frame, code, data, answers);
+    if chip_options::read::iden(o) == 0 {
+        return feeding::feed(chip, c, all, held, code, data, answers);
     }
-    feeding::feed(chip, c, &all[0..8], frame, code, data, answers)
+    feeding::feed(chip, c, &all[0..8], held, code, data, answers)
 }

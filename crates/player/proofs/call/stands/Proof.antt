@@ -3,11 +3,8 @@ use borrow.Author.Needs.{needs}
 use Rattle.player.proofs.call.stands.Statement.{statement}
 use Rattle.player.proofs.call.stands.Tie as tie
 
-report-requires : tie.Need-report-requires
-report-requires c κs = search needs
-
 returns : tie.Need-returns
 returns c = rw (c .report .ensures)
 
 pub stands-spec : {M : Type 1} → statement M
-stands-spec = tie.close (tie.spec report-requires returns)
+stands-spec = tie.close (tie.spec (λ c κs. search needs) returns)

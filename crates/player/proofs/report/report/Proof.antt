@@ -5,48 +5,6 @@ use borrow.Author.Needs.{needs}
 use Rattle.player.proofs.report.report.Statement.{statement}
 use Rattle.player.proofs.report.report.Tie as tie
 
-enum-told : tie.Need-enum-told
-enum-told c = search needs
-
-enum-told-2 : tie.Need-enum-told-2
-enum-told-2 c = search needs
-
-counts-of-requires : tie.Need-counts-of-requires
-counts-of-requires c κs = search needs
-
-enum-told-3 : tie.Need-enum-told-3
-enum-told-3 c = search needs
-
-counts-of-requires-2 : tie.Need-counts-of-requires-2
-counts-of-requires-2 c κs = search needs
-
-enum-told-4 : tie.Need-enum-told-4
-enum-told-4 c = search needs
-
-counts-of-requires-3 : tie.Need-counts-of-requires-3
-counts-of-requires-3 c κs = search needs
-
-enum-told-5 : tie.Need-enum-told-5
-enum-told-5 c = search needs
-
-counts-of-requires-4 : tie.Need-counts-of-requires-4
-counts-of-requires-4 c κs = search needs
-
-enum-told-6 : tie.Need-enum-told-6
-enum-told-6 c = search needs
-
-counts-of-requires-5 : tie.Need-counts-of-requires-5
-counts-of-requires-5 c κs = search needs
-
-enum-told-7 : tie.Need-enum-told-7
-enum-told-7 c = search needs
-
-counts-of-requires-6 : tie.Need-counts-of-requires-6
-counts-of-requires-6 c κs = search needs
-
-enum-told-8 : tie.Need-enum-told-8
-enum-told-8 c = search needs
-
 returns : tie.Need-returns
 unfolding reportOf reportBy
 returns c = rw (c .enum-told .given .1)
@@ -83,20 +41,20 @@ pub report-spec : {M : Type 1} → statement M
 report-spec =
     tie.close
     (tie.spec
-    enum-told
-    enum-told-2
-    counts-of-requires
-    enum-told-3
-    counts-of-requires-2
-    enum-told-4
-    counts-of-requires-3
-    enum-told-5
-    counts-of-requires-4
-    enum-told-6
-    counts-of-requires-5
-    enum-told-7
-    counts-of-requires-6
-    enum-told-8
+    (λ c. search needs)
+    (λ c. search needs)
+    (λ c κs. search needs)
+    (λ c. search needs)
+    (λ c κs. search needs)
+    (λ c. search needs)
+    (λ c κs. search needs)
+    (λ c. search needs)
+    (λ c κs. search needs)
+    (λ c. search needs)
+    (λ c κs. search needs)
+    (λ c. search needs)
+    (λ c κs. search needs)
+    (λ c. search needs)
     returns
     returns-2
     returns-3

@@ -5,7 +5,7 @@ use native.Mathlib.Omega.{arith}
 use borrow.Author.Needs.{needs}
 use Rattle.rules.specs.Sheet.{bodyEnd, offsetDue, entriesVerdict}
 use Rattle.sheet.proofs.Entries.{none-left, one-refused, one-accepted}
-use Rattle.entries.proofs.Fields.{says, due-first, due-later}
+use Rattle.sheet.proofs.Fields.{says, due-first, due-later}
 use Rattle.sheet.proofs.judge.entries_verdict.Statement.{statement}
 use Rattle.sheet.proofs.judge.entries_verdict.Tie as tie
 
@@ -16,22 +16,10 @@ Inv-loop chip sheet n i₀ due₀ i due =
 abbrev μ-loop : tie.MeasureT-loop
 μ-loop chip sheet n i₀ due₀ i due = n - i
 
-table-end-requires : tie.Need-table-end-requires Inv-loop μ-loop
-table-end-requires c κs = search needs
-
 loop-holds : tie.Need-loop-holds Inv-loop μ-loop
 loop-holds c =
     let a = c .before .before .args in
     (omega arith, ap (λ left. entriesVerdict (a .chip) (a .sheet .now) 0 left) (omega arith), c .table-end .ensures ∙ sym (due-first (a .sheet .now) 0 refl))
-
-entry-at-requires : tie.Need-entry-at-requires Inv-loop μ-loop
-entry-at-requires c κs = search needs
-
-entry-verdict-requires : tie.Need-entry-verdict-requires Inv-loop μ-loop
-entry-verdict-requires c κs = search needs
-
-enum-known-refusal : tie.Need-enum-known-refusal Inv-loop μ-loop
-enum-known-refusal c = search needs
 
 returns : tie.Need-returns Inv-loop μ-loop
 returns c =
@@ -41,18 +29,6 @@ returns c =
     sym
     (l .inv .1
     ∙ one-refused (a .chip) (a .sheet .now) (l .i) (a .n - l .i) (a .n - (l .i + 1)) (omega arith) _ (sym v ∙ c .before .refusal .given .1))
-
-enum-told : tie.Need-enum-told Inv-loop μ-loop
-enum-told c = search needs
-
-body-end-requires : tie.Need-body-end-requires Inv-loop μ-loop
-body-end-requires c κs = search needs
-
-add-i : tie.Need-add-i Inv-loop μ-loop
-add-i c = omega arith
-
-loop-less : tie.Need-loop-less Inv-loop μ-loop
-loop-less c = omega arith
 
 loop-again : tie.Need-loop-again Inv-loop μ-loop
 loop-again c =
@@ -76,18 +52,4 @@ returns-2 c =
 pub entries-verdict-spec : {M : Type 1} → statement M
 entries-verdict-spec =
     tie.close
-    (tie.spec
-    Inv-loop
-    μ-loop
-    table-end-requires
-    loop-holds
-    entry-at-requires
-    entry-verdict-requires
-    enum-known-refusal
-    returns
-    enum-told
-    body-end-requires
-    add-i
-    loop-less
-    loop-again
-    returns-2)
+    (tie.spec Inv-loop μ-loop (λ c κs. search needs) loop-holds (λ c κs. search needs) (λ c κs. search needs) (λ c. search needs) returns (λ c. search needs) (λ c κs. search needs) (λ c. omega arith) (λ c. omega arith) loop-again returns-2)

@@ -4,26 +4,14 @@ use Prim.Native.Nat.{ℕ}
 use native.Mathlib.Omega.{arith}
 use Rattle.rules.specs.Chip.{invalid}
 use Rattle.rules.specs.Sheet.{rangeAt}
-use Rattle.entries.proofs.Fields.{Says, says}
+use Rattle.sheet.proofs.Fields.{Says, says}
 use Rattle.sheet.proofs.Verdicts.{kind-under, kind-over, zero-broken, pair-broken, offset-broken, body-broken, entry-allowed}
 use borrow.Author.Needs.{needs}
 use Rattle.sheet.proofs.judge.entry_verdict.Statement.{statement}
 use Rattle.sheet.proofs.judge.entry_verdict.Tie as tie
 
-range-requires : tie.Need-range-requires
-range-requires c κs = search needs
-
-is-invalid-requires : tie.Need-is-invalid-requires
-is-invalid-requires c κs = search needs
-
-cast-offset : tie.Need-cast-offset
-cast-offset c = search needs
-
-body-end-requires : tie.Need-body-end-requires
-body-end-requires c κs = search needs
-
 abbrev start : tie.After-body-end → tie.Start
-start c = c .before .before .before .before .before
+start c = c .before .before .before .before .before .before
 
 -- whether the pair of an entry that was read is a range
 paired : (c : tie.After-body-end) (i : ℕ) → let a = start c .args in Says (a .sheet .now) i (a .e) → c .before .before .is-invalid .result ≡ invalid (rangeAt (a .chip) (a .sheet .now) i)
@@ -81,15 +69,4 @@ returns-7 c = λ i said due.
 pub entry-verdict-spec : {M : Type 1} → statement M
 entry-verdict-spec =
     tie.close
-    (tie.spec
-    range-requires
-    is-invalid-requires
-    cast-offset
-    body-end-requires
-    returns
-    returns-2
-    returns-3
-    returns-4
-    returns-5
-    returns-6
-    returns-7)
+    (tie.spec (λ c κs. search needs) (λ c κs. search needs) (λ c κs. search needs) (λ c. search needs) (λ c κs. search needs) returns returns-2 returns-3 returns-4 returns-5 returns-6 returns-7)

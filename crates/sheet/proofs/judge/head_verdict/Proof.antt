@@ -6,28 +6,29 @@ use borrow.Author.Needs.{needs}
 use Rattle.sheet.proofs.judge.head_verdict.Statement.{statement}
 use Rattle.sheet.proofs.judge.head_verdict.Tie as tie
 
+abbrev start : tie.Else2 → tie.Start
+start c = c .before .before .before .before .before
+
 returns : tie.Need-returns
-returns c = sym (too-short (c .before .before .args .sheet .now) (c .if1 .taken))
+returns c = sym (too-short (c .before .before .before .args .sheet .now) (omega arith))
 
 returns-2 : tie.Need-returns-2
-returns-2 c = sym (too-long (c .before .before .before .args .sheet .now) (c .if2 .taken))
-
-count-requires : tie.Need-count-requires
-count-requires c κs = search needs
+returns-2 c = sym (too-long (c .before .before .before .before .before .args .sheet .now) (omega arith))
 
 returns-3 : tie.Need-returns-3
-returns-3 c = let s = c .before .before .before .before .before .args .sheet .now in sym (too-many s (omega arith) (omega arith) (omega arith))
-
-table-end-requires : tie.Need-table-end-requires
-table-end-requires c κs = search needs
+returns-3 c = let s = start (c .before .before) .args .sheet .now in sym (too-many s (omega arith) (omega arith) (omega arith))
 
 returns-4 : tie.Need-returns-4
-returns-4 c = let s = c .before .before .before .before .before .before .before .args .sheet .now in sym (cut-short s (omega arith) (omega arith) (omega arith) (omega arith))
+returns-4 c =
+    let s = start (c .before .before .before .before) .args .sheet .now in
+    sym (cut-short s (omega arith) (omega arith) (omega arith) (omega arith))
 
 returns-5 : tie.Need-returns-5
-returns-5 c = let s = c .before .before .before .before .before .before .before .args .sheet .now in sym (head-allowed s (omega arith) (omega arith) (omega arith) (omega arith))
+returns-5 c =
+    let s = start (c .before .before .before .before) .args .sheet .now in
+    sym (head-allowed s (omega arith) (omega arith) (omega arith) (omega arith))
 
 pub head-verdict-spec : {M : Type 1} → statement M
 head-verdict-spec =
     tie.close
-    (tie.spec returns returns-2 count-requires returns-3 table-end-requires returns-4 returns-5)
+    (tie.spec (λ c κs. search needs) returns (λ c κs. search needs) returns-2 (λ c κs. search needs) returns-3 (λ c κs. search needs) returns-4 returns-5)

@@ -9,13 +9,13 @@ use borrow.Author.Needs.{needs}
 use borrow.Rule.Slice.PartMut.{putMid}
 use Rattle.rules.specs.declared.Call.the-variants.{Refused, Answer}
 use Rattle.rules.specs.StandIn.{byteCall}
-use Rattle.finder.specs.Lent.{memory}
-use Rattle.wire.proofs.Buffers.{rest-of, put-rest}
-use Rattle.engine.specs.View.{view, came}
-use Rattle.engine.specs.Change.{changed, told}
+use Rattle.chip_finder.specs.LentFlashes.{memory}
+use Rattle.frame_build.proofs.Buffers.{rest-of, put-rest}
+use Rattle.standin_engine.specs.View.{view, callOutcome}
+use Rattle.standin_engine.specs.Change.{changed, callOf}
 use Rattle.standin.specs.Feeding.{feeding, feedFrom, fedInto}
-use Rattle.engine.specs.declared.Change.{Change}
-use Rattle.standin.proofs.Onward.{fed-end, fed-on, fed-stop, answer-room}
+use Rattle.standin_engine.specs.declared.Change.{Change}
+use Rattle.standin.proofs.FeedingAdvances.{fed-end, fed-on, fed-stop, answer-room}
 use Rattle.standin.proofs.feeding.feed.Statement.{statement}
 use Rattle.standin.proofs.feeding.feed.Tie as tie
 
@@ -34,20 +34,20 @@ abbrev μ-loop : tie.MeasureT-loop
 μ-loop chip bytes frame₀ code₀ data₀ answers₀ core₀ w₀ i₀ frame code «data» answers core w i = length bytes - i
 
 -- the byte call came to what the definition says of the rest of the buffer
-module _ (c : tie.After-slice-known6 Inv-loop μ-loop) (x : Change) (e : c .before .before .before .before .before .before .hear .result ≡ x) where
-  called : let l = c .before .before .before .before .before .before .before .before .before .before .before .before .before .loop in let a = c .before .before .before .before .before .before .before .before .before .before .before .before .before .before .before .before .before .before .args in let t = c .before .before .before .before .before .before .hear in
-      came (view (changed (l .core) x) (t .last .1 .1 .1 .0) (memory (t .last .1 .1 .1 .1 .0) (t .last .1 .1 .1 .1 .1 .0))) (told x) (t .last .1 .1 .1 .1 .1 .1 .0)
-      ≡ byteCall (a .chip) (view (l .core) (l .frame) (memory (l .code) (l .«data»))) (drop (l .w) (l .answers)) (getD (now (a .bytes)) (l .i) 0)
+module _ (c : tie.After-slice-known6 Inv-loop μ-loop) (x : Change) (e : c .before .before .before .before .before .before .byte-change .result ≡ x) where
+  called : let l = c .before .before .before .before .before .before .before .before .before .before .before .before .before .loop in let a = c .before .before .before .before .before .before .before .before .before .before .before .before .before .before .before .before .before .before .args in let t = c .before .before .before .before .before .before .byte-change in
+      callOutcome (view (changed (l .core) x) (t .last .1 .1 .1 .0) (memory (t .last .1 .1 .1 .1 .0) (t .last .1 .1 .1 .1 .1 .0))) (callOf x) (t .last .1 .1 .1 .1 .1 .1 .0)
+      ≡ byteCall (a .chip) (view (l .core) (l .held) (memory (l .code) (l .«data»))) (drop (l .w) (l .answers)) (getD (now (a .bytes)) (l .i) 0)
   called =
       let l = c .before .before .before .before .before .before .before .before .before .before .before .before .before .loop in
       let a = c .before .before .before .before .before .before .before .before .before .before .before .before .before .before .before .before .before .before .args in
-      let t = c .before .before .before .before .before .before .hear in
-      ap (λ (y : Change). came (view (changed (l .core) y) (t .last .1 .1 .1 .0) (memory (t .last .1 .1 .1 .1 .0) (t .last .1 .1 .1 .1 .1 .0))) (told y) (t .last .1 .1 .1 .1 .1 .1 .0)) (sym e)
+      let t = c .before .before .before .before .before .before .byte-change in
+      ap (λ (y : Change). callOutcome (view (changed (l .core) y) (t .last .1 .1 .1 .0) (memory (t .last .1 .1 .1 .1 .0) (t .last .1 .1 .1 .1 .1 .0))) (callOf y) (t .last .1 .1 .1 .1 .1 .1 .0)) (sym e)
       ∙ t .ensures
-      ∙ ap (λ (r : List ℕ). byteCall (a .chip) (view (l .core) (l .frame) (memory (l .code) (l .«data»))) r (getD (now (a .bytes)) (l .i) 0)) (rest-of (l .w) (l .answers))
+      ∙ ap (λ (r : List ℕ). byteCall (a .chip) (view (l .core) (l .held) (memory (l .code) (l .«data»))) r (getD (now (a .bytes)) (l .i) 0)) (rest-of (l .w) (l .answers))
 
   -- an answer has room in what is left of the buffer
-  left : (k : ℕ) → told x ≡ Answer k → c .before .before .before .before .before .before .before .before .before .before .before .before .before .loop .w + k ≤ length (c .before .before .before .before .before .before .before .before .before .before .before .before .before .loop .answers)
+  left : (k : ℕ) → callOf x ≡ Answer k → c .before .before .before .before .before .before .before .before .before .before .before .before .before .loop .w + k ≤ length (c .before .before .before .before .before .before .before .before .before .before .before .before .before .loop .answers)
   left k q =
       let l = c .before .before .before .before .before .before .before .before .before .before .before .before .before .loop in
       let r = answer-room _ _ (l .answers) (l .w) (l .i) (now (c .before .before .before .before .before .before .before .before .before .before .before .before .before .before .before .before .before .before .args .bytes)) (c .before .before .before .before .before .before .before .before .before .before .before .before .loop-test .taken) _ _ _ called k q in
@@ -55,14 +55,14 @@ module _ (c : tie.After-slice-known6 Inv-loop μ-loop) (x : Change) (e : c .befo
       omega (arith, d, l .inv .2)
 
   -- and the feeding goes on behind it
-  onward : let l = c .before .before .before .before .before .before .before .before .before .before .before .before .before .loop in let a = c .before .before .before .before .before .before .before .before .before .before .before .before .before .before .before .before .before .before .args in let t = c .before .before .before .before .before .before .hear in
-      (k : ℕ) → told x ≡ Answer k
+  onward : let l = c .before .before .before .before .before .before .before .before .before .before .before .before .before .loop in let a = c .before .before .before .before .before .before .before .before .before .before .before .before .before .before .before .before .before .before .args in let t = c .before .before .before .before .before .before .byte-change in
+      (k : ℕ) → callOf x ≡ Answer k
       → feedFrom (a .chip) (view (changed (l .core) x) (t .last .1 .1 .1 .0) (memory (t .last .1 .1 .1 .1 .0) (t .last .1 .1 .1 .1 .1 .0))) (putMid (l .w) (length (l .answers) - l .w) (l .answers) (t .last .1 .1 .1 .1 .1 .1 .0)) (l .w + k) (l .i + 1) (drop (l .i + 1) (now (a .bytes)))
-      ≡ fedInto (a .chip) (view (a .c) (now (a .frame)) (memory (now (a .code)) (now (a .«data»)))) (now (a .answers)) (now (a .bytes))
+      ≡ fedInto (a .chip) (view (a .c) (now (a .held)) (memory (now (a .code)) (now (a .«data»)))) (now (a .answers)) (now (a .bytes))
   onward k q =
       let l = c .before .before .before .before .before .before .before .before .before .before .before .before .before .loop in
       let a = c .before .before .before .before .before .before .before .before .before .before .before .before .before .before .before .before .before .before .args in
-      let t = c .before .before .before .before .before .before .hear in
+      let t = c .before .before .before .before .before .before .byte-change in
       ap
       (λ (y : List ℕ). feedFrom (a .chip) (view (changed (l .core) x) (t .last .1 .1 .1 .0) (memory (t .last .1 .1 .1 .1 .0) (t .last .1 .1 .1 .1 .1 .0))) y (l .w + k) (l .i + 1) (drop (l .i + 1) (now (a .bytes))))
       (put-rest (l .w) (l .answers) (t .last .1 .1 .1 .1 .1 .1 .0))
@@ -71,65 +71,32 @@ module _ (c : tie.After-slice-known6 Inv-loop μ-loop) (x : Change) (e : c .befo
 
 -- the buffer of answers keeps its length
 kept : (c : tie.After-slice-known6 Inv-loop μ-loop) → let l = c .before .before .before .before .before .before .before .before .before .before .before .before .before .loop in
-    length (putMid (l .w) (length (l .answers) - l .w) (l .answers) (c .before .before .before .before .before .before .hear .last .1 .1 .1 .1 .1 .1 .0)) ≡ length (l .answers)
+    length (putMid (l .w) (length (l .answers) - l .w) (l .answers) (c .before .before .before .before .before .before .byte-change .last .1 .1 .1 .1 .1 .1 .0)) ≡ length (l .answers)
 kept c = search needs
 
 loop-holds : tie.Need-loop-holds Inv-loop μ-loop
 loop-holds c = (refl, omega arith, omega arith, refl, refl, refl, omega arith, omega arith)
-
-shared-slice-read-hear : tie.Need-shared-slice-read-hear Inv-loop μ-loop
-shared-slice-read-hear c = search needs
-
-sub-hear : tie.Need-sub-hear Inv-loop μ-loop
-sub-hear c = search needs
-
-part-hear-start : tie.Need-part-hear-start Inv-loop μ-loop
-part-hear-start c = search needs
-
-part-hear-end : tie.Need-part-hear-end Inv-loop μ-loop
-part-hear-end c = search needs
-
-hear-requires : tie.Need-hear-requires Inv-loop μ-loop
-hear-requires c κs = search needs
-
-enum-known-changed : tie.Need-enum-known-changed Inv-loop μ-loop
-enum-known-changed c = search needs
-
-same-length : tie.Need-same-length Inv-loop μ-loop
-same-length c = search needs
-
-same-length-2 : tie.Need-same-length-2 Inv-loop μ-loop
-same-length-2 c = search needs
-
-same-length-3 : tie.Need-same-length-3 Inv-loop μ-loop
-same-length-3 c = search needs
 
 returns : tie.Need-returns Inv-loop μ-loop
 returns c =
     let k = c .before .before .before in
     let l = k .before .before .before .before .before .before .before .before .before .before .before .before .before .loop in
     let a = k .before .before .before .before .before .before .before .before .before .before .before .before .before .before .before .before .before .before .args in
-    let t = k .before .before .before .before .before .before .hear in
+    let t = k .before .before .before .before .before .before .byte-change in
     ap
     (λ (x : List ℕ). feeding (view (l .core) (t .last .1 .1 .1 .0) (memory (t .last .1 .1 .1 .1 .0) (t .last .1 .1 .1 .1 .1 .0))) (Refused (c .before .changed .given .0 .0)) (l .i) x)
     (put-rest (l .w) (l .answers) (t .last .1 .1 .1 .1 .1 .1 .0))
     ∙ fed-stop _ _ (l .answers) (l .w) (l .i) (now (a .bytes)) (k .before .before .before .before .before .before .before .before .before .before .before .before .loop-test .taken) _ _ _ (called k _ (c .before .changed .given .1)) _ refl
     ∙ l .inv .0
 
-enum-known-changed-2 : tie.Need-enum-known-changed-2 Inv-loop μ-loop
-enum-known-changed-2 c = search needs
-
 add-i : tie.Need-add-i Inv-loop μ-loop
 add-i c = let b = c .before .before .before .before .before .before .before .before .before .before .before .before .before .before .before .before .loop .inv .7 in omega (arith, c .before .before .before .before .before .before .before .before .before .before .before .before .before .before .before .loop-test .taken, b)
-
-loop-less : tie.Need-loop-less Inv-loop μ-loop
-loop-less c = search needs
 
 loop-again : tie.Need-loop-again Inv-loop μ-loop
 loop-again c =
     let k = c .before .before .before in
     let l = k .before .before .before .before .before .before .before .before .before .before .before .before .before .loop in
-    let t = k .before .before .before .before .before .before .hear in
+    let t = k .before .before .before .before .before .before .byte-change in
     let e : l .w + 0 ≡ l .w = omega arith in (
       rw e at (onward k _ (c .before .changed2 .given .1) 0 refl),
       omega (arith, k .before .before .before .before .before .before .before .before .before .before .before .before .loop-test .taken),
@@ -141,9 +108,6 @@ loop-again c =
       l .inv .7,
     )
 
-enum-known-changed-3 : tie.Need-enum-known-changed-3 Inv-loop μ-loop
-enum-known-changed-3 c = search needs
-
 add-w : tie.Need-add-w Inv-loop μ-loop
 add-w c =
     let l = c .before .before .before .before .before .before .before .before .before .before .before .before .before .before .before .before .before .before .loop in
@@ -153,14 +117,11 @@ add-w c =
 add-i-2 : tie.Need-add-i-2 Inv-loop μ-loop
 add-i-2 c = let b = c .before .before .before .before .before .before .before .before .before .before .before .before .before .before .before .before .before .before .loop .inv .7 in omega (arith, c .before .before .before .before .before .before .before .before .before .before .before .before .before .before .before .before .before .loop-test .taken, b)
 
-loop-less-2 : tie.Need-loop-less-2 Inv-loop μ-loop
-loop-less-2 c = search needs
-
 loop-again-2 : tie.Need-loop-again-2 Inv-loop μ-loop
 loop-again-2 c =
     let k = c .before .before .before .before .before in
     let l = k .before .before .before .before .before .before .before .before .before .before .before .before .before .loop in
-    let t = k .before .before .before .before .before .before .hear in
+    let t = k .before .before .before .before .before .before .byte-change in
     let r = left k _ (c .before .before .before .changed3 .given .1) _ refl in (
       onward k _ (c .before .before .before .changed3 .given .1) _ refl,
       omega (arith, k .before .before .before .before .before .before .before .before .before .before .before .before .loop-test .taken),
@@ -171,15 +132,6 @@ loop-again-2 c =
       rw (kept k) (l .inv .6),
       l .inv .7,
     )
-
-same-length-4 : tie.Need-same-length-4 Inv-loop μ-loop
-same-length-4 c = search needs
-
-same-length-5 : tie.Need-same-length-5 Inv-loop μ-loop
-same-length-5 c = search needs
-
-same-length-6 : tie.Need-same-length-6 Inv-loop μ-loop
-same-length-6 c = search needs
 
 returns-2 : tie.Need-returns-2 Inv-loop μ-loop
 returns-2 c =
@@ -194,26 +146,26 @@ feed-spec =
     Inv-loop
     μ-loop
     loop-holds
-    shared-slice-read-hear
-    sub-hear
-    part-hear-start
-    part-hear-end
-    hear-requires
-    enum-known-changed
-    same-length
-    same-length-2
-    same-length-3
+    (λ c. search needs)
+    (λ c. search needs)
+    (λ c. search needs)
+    (λ c. search needs)
+    (λ c κs. search needs)
+    (λ c. search needs)
+    (λ c. search needs)
+    (λ c. search needs)
+    (λ c. search needs)
     returns
-    enum-known-changed-2
+    (λ c. search needs)
     add-i
-    loop-less
+    (λ c. search needs)
     loop-again
-    enum-known-changed-3
+    (λ c. search needs)
     add-w
     add-i-2
-    loop-less-2
+    (λ c. search needs)
     loop-again-2
-    same-length-4
-    same-length-5
-    same-length-6
+    (λ c. search needs)
+    (λ c. search needs)
+    (λ c. search needs)
     returns-2)

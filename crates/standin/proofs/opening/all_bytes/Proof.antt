@@ -10,24 +10,6 @@ use borrow.Author.Needs.{needs}
 use Rattle.standin.proofs.opening.all_bytes.Statement.{statement}
 use Rattle.standin.proofs.opening.all_bytes.Tie as tie
 
-ident-body-requires : tie.Need-ident-body-requires
-ident-body-requires c κs = search needs
-
-sub-put-frame : tie.Need-sub-put-frame
-sub-put-frame c = search needs
-
-part-bytes-start : tie.Need-part-bytes-start
-part-bytes-start c = search needs
-
-part-bytes-end : tie.Need-part-bytes-end
-part-bytes-end c = search needs
-
-slice-aggregate-put-frame : tie.Need-slice-aggregate-put-frame
-slice-aggregate-put-frame c = search needs
-
-put-frame-requires : tie.Need-put-frame-requires
-put-frame-requires c κs = search needs
-
 returns : tie.Need-returns
 returns c =
     let b = c .before .before .before .before .ident-body in
@@ -41,10 +23,10 @@ pub all-bytes-spec : {M : Type 1} → statement M
 all-bytes-spec =
     tie.close
     (tie.spec
-    ident-body-requires
-    sub-put-frame
-    part-bytes-start
-    part-bytes-end
-    slice-aggregate-put-frame
-    put-frame-requires
+    (λ c κs. search needs)
+    (λ c. search needs)
+    (λ c. search needs)
+    (λ c. search needs)
+    (λ c. search needs)
+    (λ c κs. search needs)
     returns)

@@ -1,4 +1,0 @@
-pub mod Answers
-pub mod Codes
-pub mod Found
-pub mod Results

@@ -1,0 +1,121 @@
+// A whole sheet, step by step.
+use super::Answer;
+use super::Played;
+use joined_checks::LentSizes;
+use joined_step::Rig;
+use joined_step::step::step_through;
+use player_absorb::absorb;
+use player_absorb::new_player;
+use rules::Chip;
+use rules::Player;
+use rules::Stage;
+use rules::Verdict;
+use sheet::table::count;
+use standin_state::Core;
+ghost use mathlib.Core.Path.{_≡_};
+ghost use Rattle.rules.specs.Player.{newPlayer};
+ghost use Rattle.rules.specs.Run.{clean, run};
+ghost use Rattle.joined_laws.specs.Turns.{Sized};
+ghost use Rattle.joined_step.specs.Rigs.{rigged};
+ghost use Rattle.joined.specs.Plays.{isOver, outcome, sheetPlayed};
+ghost use Rattle.joined.specs.Ready.{PlayReady};
+
+// The play is over.
+pub fn is_over(p: Player) -> bool
+    ensures { λ r. ⌜ r ≡ isOver (p .stage) ⌝ }
+{
+    let stage = p.stage;
+    match stage {
+        Stage::New => false,
+        Stage::Ready => false,
+        Stage::Erased => false,
+        Stage::Opened => false,
+        Stage::Summed => false,
+        Stage::Page => false,
+        Stage::Paged => false,
+        Stage::Over => true,
+    }
+}
+
+// All steps of an accepted sheet, up to the first that fails.
+fn steps_through(
+    chip: Chip,
+    sheet: &[u8],
+    r: Rig,
+    held: &mut [u8; 260],
+    code: &mut [u8],
+    data: &mut [u8],
+    reply: &mut [u8],
+    frame: &mut [u8],
+    sums: &mut [u16],
+) -> Rig
+    requires { ⌜ (Sized chip → PlayReady chip (now sheet) (rigged r (now held) (now code) (now «data») (now reply) (now frame) (now sums))) ⌝ }
+    ensures { λ q. ⌜ (Sized chip → rigged q (now (held .exit)) (now (code .exit)) (now («data» .exit)) (now (reply .exit)) (now (frame .exit)) (now (sums .exit)) ≡ run clean chip (now (sheet .entry)) (rigged r (now (held .entry)) (now (code .entry)) (now («data» .entry)) (now (reply .entry)) (now (frame .entry)) (now (sums .entry))) .reached) ⌝ }
+{
+    let new = r.player;
+    let core = r.core;
+    // the first call of a play reads no reply
+    let begun = absorb(chip, sheet, new, &reply[0..0], sums);
+    let mut rig = Rig {
+        player: begun,
+        core,
+        arrived: r.arrived,
+    };
+    let n = count(sheet);
+    let mut i = 0;
+    while i < n {
+        let now = rig.player;
+        if is_over(now) {
+            return rig;
+        }
+        rig = step_through(chip, sheet, rig, held, code, data, reply, frame, sums);
+        i += 1;
+    }
+    rig
+}
+
+// A new player plays the whole sheet. Where it is refused, all stands.
+pub fn play(
+    chip: Chip,
+    sheet: &[u8],
+    c: Core,
+    held: &mut [u8; 260],
+    code: &mut [u8],
+    data: &mut [u8],
+    reply: &mut [u8],
+    frame: &mut [u8],
+    sums: &mut [u16],
+) -> Played
+    ensures { λ q. ⌜ (Sized chip → outcome (q .answer) (rigged (q .rig) (now (held .exit)) (now (code .exit)) (now («data» .exit)) (now (reply .exit)) (now (frame .exit)) (now (sums .exit))) ≡ sheetPlayed chip (now (sheet .entry)) (rigged (record { player = newPlayer; core = c; arrived = 0 }) (now (held .entry)) (now (code .entry)) (now («data» .entry)) (now (reply .entry)) (now (frame .entry)) (now (sums .entry)))) ⌝ }
+{
+    let p = new_player();
+    let rig = Rig {
+        player: p,
+        core: c,
+        arrived: 0,
+    };
+    let lent = LentSizes {
+        code: code.len(),
+        data: data.len(),
+        reply: reply.len(),
+        frame: frame.len(),
+        sums: sums.len(),
+    };
+    if let Verdict::Refused(refusal) = joined_checks::refusal(chip, sheet, p, lent) {
+        return Played {
+            rig,
+            answer: Answer::Refused(refusal),
+        };
+    }
+    if !joined_checks::waits(chip, c, &*held) {
+        return Played {
+            rig,
+            answer: Answer::Busy,
+        };
+    }
+    let end = steps_through(chip, sheet, rig, held, code, data, reply, frame, sums);
+    Played {
+        rig: end,
+        answer: Answer::Played,
+    }
+}

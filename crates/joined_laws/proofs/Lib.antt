@@ -1,0 +1,10 @@
+pub mod Frames
+pub mod FramesHeard
+pub mod LengthsKept
+pub mod MeaningSteps
+pub mod Opened
+pub mod PowerOn
+pub mod Run
+pub mod Sizes
+pub mod Steps
+pub mod Turns

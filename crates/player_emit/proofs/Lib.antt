@@ -1,0 +1,2 @@
+pub mod EmittedInto
+pub mod Outcomes

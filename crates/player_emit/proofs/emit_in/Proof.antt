@@ -1,0 +1,91 @@
+-- `player_emit::emit_in` meets its contract, stage by stage. Assumes nothing.
+use mathlib.Core.Path.{sym, ap, _∙_}
+use Rattle.rules.specs.declared.Stage.{Stage}
+use Rattle.player_laws.proofs.PlaceInSheet.{ready-stands, page-stands}
+use Rattle.player_emit.specs.Emitting.{emittedIntoBy}
+use borrow.Author.Needs.{needs}
+use Rattle.player_emit.proofs.emit_in.Statement.{statement}
+use Rattle.player_emit.proofs.emit_in.Tie as tie
+
+emit-ready-requires : tie.Need-emit-ready-requires
+emit-ready-requires c κs =
+    let x = c .before in
+    let s = x .before .before .before .before in
+    let a = s .args in
+    (s .pre .0, ready-stands (a .chip) (a .sheet .now) (a .p) (a .t) (s .pre .1) (s .pre .2) (x .enum-told2 .given .1) .1)
+
+emit-page-requires : tie.Need-emit-page-requires
+emit-page-requires c κs =
+    let x = c .before in
+    let s = x .before .before .before .before in
+    let a = s .args in
+    (s .pre .0, page-stands (a .chip) (a .sheet .now) (a .p) (a .t) (s .pre .1) (s .pre .2) (x .enum-told6 .given .1) .2)
+
+returns : tie.Need-returns
+unfolding emittedIntoBy
+returns c = rw (c .nothing .ensures, c .before .enum-told .given .1)
+
+returns-2 : tie.Need-returns-2
+unfolding emittedIntoBy
+returns-2 c =
+    let x = c .before .before in
+    let a = x .before .before .before .before .before .before .args in
+    x .emit-ready .ensures ∙ ap (λ (g : Stage). emittedIntoBy g (a .sheet .now) (a .t) (a .p) (a .frame .now)) (sym (x .before .before .enum-told2 .given .1))
+
+returns-3 : tie.Need-returns-3
+unfolding emittedIntoBy
+returns-3 c = rw (c .nothing2 .ensures, c .before .enum-told3 .given .1)
+
+returns-4 : tie.Need-returns-4
+unfolding emittedIntoBy
+returns-4 c = rw (c .nothing3 .ensures, c .before .enum-told4 .given .1)
+
+returns-5 : tie.Need-returns-5
+unfolding emittedIntoBy
+returns-5 c = rw (c .nothing4 .ensures, c .before .enum-told5 .given .1)
+
+returns-6 : tie.Need-returns-6
+unfolding emittedIntoBy
+returns-6 c =
+    let x = c .before .before in
+    let a = x .before .before .before .before .before .before .args in
+    x .emit-page .ensures ∙ ap (λ (g : Stage). emittedIntoBy g (a .sheet .now) (a .t) (a .p) (a .frame .now)) (sym (x .before .before .enum-told6 .given .1))
+
+returns-7 : tie.Need-returns-7
+unfolding emittedIntoBy
+returns-7 c = rw (c .nothing5 .ensures, c .before .enum-told7 .given .1)
+
+returns-8 : tie.Need-returns-8
+unfolding emittedIntoBy
+returns-8 c = rw (c .nothing6 .ensures, c .before .enum-told8 .given .1)
+
+pub emit-in-spec : {M : Type 1} → statement M
+emit-in-spec =
+    tie.close
+    (tie.spec
+    (λ c. search needs)
+    (λ c κs. search needs)
+    (λ c. search needs)
+    emit-ready-requires
+    (λ c. search needs)
+    (λ c κs. search needs)
+    (λ c. search needs)
+    (λ c κs. search needs)
+    (λ c. search needs)
+    (λ c κs. search needs)
+    (λ c. search needs)
+    emit-page-requires
+    (λ c. search needs)
+    (λ c κs. search needs)
+    (λ c. search needs)
+    (λ c κs. search needs)
+    returns
+    (λ c. search needs)
+    returns-2
+    returns-3
+    returns-4
+    returns-5
+    (λ c. search needs)
+    returns-6
+    returns-7
+    returns-8)

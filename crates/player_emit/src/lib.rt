@@ -1,0 +1,217 @@
+// The next frame is given: whole, over the first bytes of a lent buffer. Its addresses come only from the finder.
+use chip_finder::PAGE_SIZE;
+use chip_finder::first_byte;
+use chip_finder::last_byte;
+use frame_build::BLOCK_ERASE;
+use frame_build::CHECKSUM;
+use frame_build::PROGRAMMING;
+use frame_build::VERIFY;
+use frame_build::put_frame;
+use frame_judge::end_due;
+use octets::numbers::high_byte;
+use octets::numbers::low_byte;
+use octets::numbers::middle_byte;
+use player_place::is_lost;
+use rules::Block;
+use rules::Chip;
+use rules::FRAME_ROOM;
+use rules::Kind;
+use rules::Player;
+use rules::Stage;
+use rules::Step;
+use sheet::steps::step_at;
+use sheet::steps::step_pages;
+use sheet::table::count;
+ghost use mathlib.Core.Path.{_≡_};
+ghost use mathlib.Core.Bool.{false};
+ghost use Prim.Native.Nat.{_+_, _*_, _<_, _≤_};
+ghost use lib.ListN.{length};
+ghost use Rattle.rules.specs.Sheet.{stepAt, stepBlocks, stepPages};
+ghost use Rattle.rules.specs.Player.{player, counted, pairCommand, blockCommand, pageFrame, emitReady, lost};
+ghost use Rattle.frame_build.specs.Buffer.{put, putBytes};
+ghost use Rattle.rules.specs.declared.Kind.the-variants.{Erase};
+ghost use Rattle.player_emit.specs.Emitting.{emitting, emittingBy, pageThere, pageInto, emittedIntoBy, emittedInto};
+
+// The player after a frame, and how many bytes the frame has; 0 where none is given.
+pub struct Emitted {
+    pub player: Player,
+    pub sent: usize,
+}
+
+// The player counts frames sent; a count that cannot grow stays.
+fn count_frame(n: usize) -> usize
+    ensures { λ r. ⌜ r ≡ counted n ⌝ }
+{
+    if n < 0xFFFF_FFFF {
+        return n + 1;
+    }
+    n
+}
+
+// A frame is sent, and its answer awaited.
+fn sending(stage: Stage, p: Player) -> Player
+    ensures { λ r. ⌜ r ≡ player stage (p .step) (p .at) (counted (p .frames)) (p .pieces) (p .status) ⌝ }
+{
+    let status = p.status;
+    Player {
+        stage,
+        step: p.step,
+        at: p.at,
+        frames: count_frame(p.frames),
+        pieces: p.pieces,
+        status,
+    }
+}
+
+// A command over the step's address pair.
+fn pair_command(code: u8, t: Step, frame: &mut [u8]) -> usize
+    ensures { λ r. ⌜ put r (now (frame .exit)) ≡ putBytes (pairCommand code t) (now (frame .entry)) ⌝ }
+{
+    let flash = t.flash;
+    let sad = first_byte(flash, t.first);
+    let ead = last_byte(flash, t.last);
+    let body = [
+        code,
+        low_byte(sad.0),
+        middle_byte(sad.0),
+        high_byte(sad.0),
+        low_byte(ead.0),
+        middle_byte(ead.0),
+        high_byte(ead.0),
+    ];
+    put_frame(frame, 0x01, 0x03, &body)
+}
+
+// The erase of the step's block `at`.
+fn block_command(t: Step, at: usize, frame: &mut [u8]) -> usize
+    requires { ⌜ at < stepBlocks t ⌝ }
+    ensures { λ r. ⌜ put r (now (frame .exit)) ≡ putBytes (blockCommand t at) (now (frame .entry)) ⌝ }
+{
+    let flash = t.flash;
+    let first = t.first;
+    let sad = first_byte(flash, Block(first.0 + at as u16));
+    let body = [
+        BLOCK_ERASE,
+        low_byte(sad.0),
+        middle_byte(sad.0),
+        high_byte(sad.0),
+    ];
+    put_frame(frame, 0x01, 0x03, &body)
+}
+
+// Page `at` of the step's body.
+fn page_frame(sheet: &[u8], t: Step, at: usize, frame: &mut [u8]) -> usize
+    requires { ⌜ (at < stepPages t) × (t .body + at * 256 + 256 ≤ length (now sheet)) ⌝ }
+    ensures { λ r. ⌜ put r (now (frame .exit)) ≡ putBytes (pageFrame (now (sheet .entry)) t at) (now (frame .entry)) ⌝ }
+{
+    let pages = step_pages(t);
+    let last = at + 1 == pages;
+    let from = t.body + at * PAGE_SIZE;
+    let end = from + PAGE_SIZE;
+    put_frame(frame, 0x02, end_due(last), &sheet[from..end])
+}
+
+// Page `at` of the step's body lies in the sheet.
+fn page_there(sheet: &[u8], t: Step, at: usize) -> bool
+    requires { ⌜ at < stepPages t ⌝ }
+    ensures { λ r. ⌜ r ≡ pageThere (now (sheet .entry)) t at ⌝ }
+{
+    let _pages = step_pages(t);
+    let end = at * PAGE_SIZE + PAGE_SIZE;
+    if sheet.len() < end {
+        return false;
+    }
+    t.body <= sheet.len() - end
+}
+
+fn nothing(p: Player) -> Emitted
+    ensures { λ r. ⌜ r ≡ record { player = p; sent = 0 } ⌝ }
+{
+    Emitted { player: p, sent: 0 }
+}
+
+// The frame that begins a step, or its next block.
+fn emit_ready(t: Step, p: Player, frame: &mut [u8]) -> Emitted
+    requires { ⌜ (260 ≤ length (now frame)) × (t .kind ≡ Erase → p .at < stepBlocks t) ⌝ }
+    ensures { λ r. ⌜ emitting (r .player) (r .sent) (now (frame .exit)) ≡ emittingBy (emitReady (t .kind) t p) (now (frame .entry)) ⌝ }
+{
+    let kind = t.kind;
+    match kind {
+        Kind::Erase => {
+            let sent = block_command(t, p.at, frame);
+            Emitted {
+                player: sending(Stage::Erased, p),
+                sent,
+            }
+        }
+        Kind::Write => {
+            let sent = pair_command(PROGRAMMING, t, frame);
+            Emitted {
+                player: sending(Stage::Opened, p),
+                sent,
+            }
+        }
+        Kind::Verify => {
+            let sent = pair_command(VERIFY, t, frame);
+            Emitted {
+                player: sending(Stage::Opened, p),
+                sent,
+            }
+        }
+        Kind::Sum => {
+            let sent = pair_command(CHECKSUM, t, frame);
+            Emitted {
+                player: sending(Stage::Summed, p),
+                sent,
+            }
+        }
+    }
+}
+
+// The page in hand; none where the sheet does not have it.
+fn emit_page(sheet: &[u8], t: Step, p: Player, frame: &mut [u8]) -> Emitted
+    requires { ⌜ (260 ≤ length (now frame)) × (p .at < stepPages t) ⌝ }
+    ensures { λ r. ⌜ emitting (r .player) (r .sent) (now (frame .exit)) ≡ pageInto (now (sheet .entry)) t p (now (frame .entry)) ⌝ }
+{
+    if !page_there(sheet, t, p.at) {
+        return nothing(p);
+    }
+    let sent = page_frame(sheet, t, p.at, frame);
+    Emitted {
+        player: sending(Stage::Paged, p),
+        sent,
+    }
+}
+
+// By stage, in the player's step `t` of the sheet.
+fn emit_in(chip: Chip, sheet: &[u8], t: Step, p: Player, frame: &mut [u8]) -> Emitted
+    requires { ⌜ (260 ≤ length (now frame)) × (stepAt chip (now sheet) (p .step) ≡ t) × (lost chip (now sheet) p ≡ false) ⌝ }
+    ensures { λ r. ⌜ emitting (r .player) (r .sent) (now (frame .exit)) ≡ emittedIntoBy (p .stage) (now (sheet .entry)) t p (now (frame .entry)) ⌝ }
+{
+    let stage = p.stage;
+    match stage {
+        Stage::New => nothing(p),
+        Stage::Ready => emit_ready(t, p, frame),
+        Stage::Erased => nothing(p),
+        Stage::Opened => nothing(p),
+        Stage::Summed => nothing(p),
+        Stage::Page => emit_page(sheet, t, p, frame),
+        Stage::Paged => nothing(p),
+        Stage::Over => nothing(p),
+    }
+}
+
+// The next frame. Nothing is given, and the buffer keeps its contents, where it is under 260 bytes or the step, block or page is
+// not in the sheet; in an accepted sheet each page of a body is.
+pub fn emit(chip: Chip, sheet: &[u8], p: Player, frame: &mut [u8]) -> Emitted
+    ensures { λ r. ⌜ emitting (r .player) (r .sent) (now (frame .exit)) ≡ emittedInto chip (now (sheet .entry)) p (now (frame .entry)) ⌝ }
+{
+    if frame.len() < FRAME_ROOM {
+        return nothing(p);
+    }
+    let t = step_at(chip, sheet, p.step);
+    if is_lost(count(sheet), t, p) {
+        return nothing(p);
+    }
+    emit_in(chip, sheet, t, p, frame)
+}

@@ -1,0 +1,108 @@
+// Replies: exactly what is due, or L1. A reply is compared with the fixed frame of `wire` first; only what differs from it is decoded.
+use frame_build::ACK;
+use frame_build::WELL;
+use frame_build::sum_of;
+use octets::numbers::byte_at;
+use octets::numbers::word_at;
+use octets::same_bytes;
+use rules::Status;
+ghost use mathlib.Core.Path.{_≡_};
+ghost use Prim.Native.Nat.{_≤_};
+ghost use Rattle.rules.specs.Player.{framed, commandReply, sumReply, sumIn, dataReply, isWell};
+
+// One data frame of n bytes and nothing more, correct in start, LEN, SUM and end.
+fn is_framed(n: usize, r: &[u8]) -> bool
+    requires { ⌜ n ≤ 2 ⌝ }
+    ensures { λ b. ⌜ b ≡ framed n (now (r .entry)) ⌝ }
+{
+    if r.len() != n + 4 {
+        return false;
+    }
+    if r[0] != 0x02 {
+        return false;
+    }
+    if r[1] as usize != n {
+        return false;
+    }
+    let sum = sum_of(r[1], &r[2..n + 2]);
+    if sum != r[n + 2] {
+        return false;
+    }
+    r[n + 3] == 0x03
+}
+
+// The status that a frame of one byte tells.
+fn decode_one(r: &[u8]) -> Status
+    ensures { λ st. ⌜ st ≡ commandReply (now (r .entry)) ⌝ }
+{
+    if !is_framed(1, r) {
+        return Status::L1;
+    }
+    Status::Byte(byte_at(r, 2))
+}
+
+// The status that a frame of two bytes tells: the first unless that is 06h, then the second.
+fn decode_pair(r: &[u8]) -> Status
+    ensures { λ st. ⌜ st ≡ dataReply (now (r .entry)) ⌝ }
+{
+    if !is_framed(2, r) {
+        return Status::L1;
+    }
+    let line = byte_at(r, 2);
+    if line == 0x06 {
+        return Status::Byte(byte_at(r, 3));
+    }
+    Status::Byte(line)
+}
+
+// The reply to a command frame.
+pub fn command_reply(r: &[u8]) -> Status
+    ensures { λ st. ⌜ st ≡ commandReply (now (r .entry)) ⌝ }
+{
+    if same_bytes(r, &ACK) {
+        return Status::Byte(0x06);
+    }
+    decode_one(r)
+}
+
+// The reply to a sum: the ACK, and a frame of two bytes behind it; or one frame that tells why not.
+pub fn sum_reply(r: &[u8]) -> Status
+    ensures { λ st. ⌜ st ≡ sumReply (now (r .entry)) ⌝ }
+{
+    if r.len() < 5 {
+        return decode_one(r);
+    }
+    if !same_bytes(&r[0..5], &ACK) {
+        return decode_one(r);
+    }
+    if is_framed(2, &r[5..]) {
+        return Status::Byte(0x06);
+    }
+    Status::L1
+}
+
+// The sum in such a reply.
+pub fn sum_in(r: &[u8]) -> u16
+    ensures { λ n. ⌜ n ≡ sumIn (now (r .entry)) ⌝ }
+{
+    word_at(r, 7)
+}
+
+// The reply to a data frame.
+pub fn data_reply(r: &[u8]) -> Status
+    ensures { λ st. ⌜ st ≡ dataReply (now (r .entry)) ⌝ }
+{
+    if same_bytes(r, &WELL) {
+        return Status::Byte(0x06);
+    }
+    decode_pair(r)
+}
+
+pub fn is_well(status: Status) -> bool
+    ensures { λ b. ⌜ b ≡ isWell status ⌝ }
+{
+    match status {
+        Status::Byte(b) => b == 0x06,
+        Status::L1 => false,
+    }
+}

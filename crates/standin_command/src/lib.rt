@@ -1,0 +1,93 @@
+// A whole command frame: the order that it was judged to give is done, or its fault answered.
+use rules::Chip;
+use rules::Fault;
+use rules::Judged;
+use rules::Options;
+use rules::Phase;
+use rules::Task;
+use standin_state::Core;
+use standin_state::Response;
+ghost use mathlib.Core.Path.{_≡_};
+ghost use Prim.Native.Nat.{_≤_};
+ghost use lib.ListN.{length};
+ghost use Rattle.rules.specs.declared.Task.the-variants.{Idle};
+ghost use Rattle.rules.specs.Chip.{Memory};
+ghost use Rattle.rules.specs.Frame.{one, statusByte};
+ghost use Rattle.rules.specs.StandIn.{out, rest, silences, phaseAfter, onCommand};
+ghost use Rattle.chip_finder.specs.LentFlashes.{memory};
+ghost use Rattle.frame_build.specs.Buffer.{frameIn};
+ghost use Rattle.standin_state.specs.View.{idle, Comes, Fits};
+
+mod orders;
+
+// Whether a fault in Speed or Ident silences the chip: LEN, parameter, ID.
+fn silences(v: Fault) -> bool
+    ensures { λ r. ⌜ r ≡ silences v ⌝ }
+{
+    match v {
+        Fault::Well => false,
+        Fault::EndByte => false,
+        Fault::Sum => false,
+        Fault::Code => false,
+        Fault::Length => true,
+        Fault::Parameter => true,
+        Fault::Ident => true,
+        Fault::NotBlank => false,
+        Fault::Protected => false,
+        Fault::PageNotBlank => false,
+        Fault::Difference => false,
+    }
+}
+
+fn phase_after(phase: Phase, v: Fault) -> Phase
+    ensures { λ r. ⌜ r ≡ phaseAfter phase v ⌝ }
+{
+    match phase {
+        Phase::Mode => Phase::Mode,
+        Phase::Speed => {
+            if silences(v) {
+                return Phase::Silent;
+            }
+            Phase::Speed
+        }
+        Phase::Ident => {
+            if silences(v) {
+                return Phase::Silent;
+            }
+            Phase::Ident
+        }
+        Phase::Command => Phase::Command,
+        Phase::Silent => Phase::Silent,
+    }
+}
+
+// A fault answered: flash and options stand.
+fn refuse(phase: Phase, o: Options, v: Fault, reply: &mut [u8]) -> Response
+    requires { ⌜ 16 ≤ length (now reply) ⌝ }
+    ensures { λ r. ⌜ ((m : Memory) → Comes r m (now (reply .exit)) (out (rest (phaseAfter phase v) Idle o m) (one (statusByte v))) (now (reply .entry))) ⌝ }
+{
+    let n = frame_build::put_one(reply, frame_judge::status_byte(v));
+    Response {
+        core: standin_state::resting::at_rest(phase_after(phase, v), Task::Idle, o),
+        answered: n,
+    }
+}
+
+pub fn on_command(
+    chip: Chip,
+    c: Core,
+    frame: &[u8; 260],
+    code: &mut [u8],
+    data: &mut [u8],
+    reply: &mut [u8],
+) -> Response
+    requires { ⌜ Fits chip (now code) (now «data») (now reply) ⌝ }
+    ensures { λ r. ⌜ Comes r (memory (now (code .exit)) (now («data» .exit))) (now (reply .exit)) (onCommand chip (idle c (memory (now (code .entry)) (now («data» .entry)))) (frameIn (now (frame .entry)))) (now (reply .entry)) ⌝ }
+{
+    let phase = c.phase;
+    let o = c.options;
+    match standin_verdict::judge(chip, phase, o, frame, &*code, &*data) {
+        Judged::Faulty(v) => refuse(phase, o, v, reply),
+        Judged::Ordered(order) => orders::obey(chip, c, order, code, data, reply),
+    }
+}

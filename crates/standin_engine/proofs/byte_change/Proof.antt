@@ -1,0 +1,101 @@
+-- `standin_engine::byte_change` meets its contract. Assumes nothing.
+use mathlib.Core.Path.{_≡_, sym, ap, _∙_}
+use native.Mathlib.Omega.{arith}
+use lib.ListN.{length}
+use denote.Ref.{now}
+use borrow.Author.Tests.{not-true, not-false}
+use Rattle.rules.specs.declared.Phase.{Phase}
+use Rattle.rules.specs.declared.Task.the-variants.{Idle}
+use Rattle.rules.specs.declared.Call.the-variants.{Answer}
+use Rattle.rules.specs.declared.Verdict.the-variants.{Accepted}
+use Rattle.rules.specs.StandIn.{Out, answered, lentVerdict, step, byteCall, rest, received, afterMode}
+use Rattle.chip_finder.specs.LentFlashes.{memory}
+use Rattle.standin_state.specs.declared.Core.{Core}
+use Rattle.standin_state.specs.View.{resting}
+use Rattle.standin_state.proofs.Lending.{lent-fits}
+use Rattle.standin_engine.specs.View.{view, callOutcome}
+use Rattle.standin_engine.proofs.Receives.{refused-byte, taken, unanswered, silent-step, mode-step, frame-step, takes-frames, takes-none}
+use borrow.Author.Needs.{needs}
+use Rattle.standin_engine.proofs.byte_change.Statement.{statement}
+use Rattle.standin_engine.proofs.byte_change.Tie as tie
+
+-- the buffer's length, from the question for it
+known : (c : tie.After-whole2) → length (now (c .before .before .before .before .before .args .held)) ≡ 260
+known c = omega arith
+
+returns : tie.Need-returns
+returns c =
+    let l = c .before .before .before in
+    refused-byte _ _ _ _ _ (sym (l .lent-verdict .ensures) ∙ c .before .refusal .given .1)
+
+-- past the refusals the byte is taken
+accepted : (c : tie.After-enum-told) → let a = c .before .before .before .before .before .before .before .before .args in
+    lentVerdict (a .chip) (length (now (a .code))) (length (now (a .«data»))) (length (now (a .reply))) ≡ Accepted
+accepted c = sym (c .before .before .lent-verdict .ensures) ∙ c .enum-told .given .1
+
+opened : (c : tie.After-enum-told) → let a = c .before .before .before .before .before .before .before .before .args in
+    let s = view (a .c) (now (a .held)) (memory (now (a .code)) (now (a .«data»))) in
+    answered (step (a .chip) s (a .byte)) (now (a .reply)) ≡ byteCall (a .chip) s (now (a .reply)) (a .byte)
+opened c = taken _ _ _ _ (accepted c)
+
+returns-2 : tie.Need-returns-2
+returns-2 c =
+    let e = c .before .before .before .before in
+    let a = e .before .before .before .before .before .before .before .before .args in
+    let v = view (a .c) (now (a .held)) (memory (now (a .code)) (now (a .«data»))) in
+    unanswered v (now (a .reply))
+    ∙ ap (λ (o : Out). answered o (now (a .reply))) (silent-step (a .chip) v (a .byte) (sym (c .before .phase-number .ensures) ∙ c .if2 .taken))
+    ∙ opened e
+
+returns-3 : tie.Need-returns-3
+unfolding received
+returns-3 c =
+    let m = c .before in
+    let n = m .before .before in
+    let t = n .before .before in
+    let e = t .before .before in
+    let a = e .before .before .before .before .before .before .before .before .args in
+    let lent = memory (now (a .code)) (now (a .«data»)) in
+    let v = view (a .c) (now (a .held)) lent in
+    let none = takes-none (a .c .phase) (sym (t .before .listens .ensures) ∙ not-true _ (t .if1 .taken)) (λ x. n .if2 .left (n .before .phase-number .ensures ∙ x)) in
+    ap (λ (k : Core). callOutcome (view k (now (a .held)) lent) (Answer 0) (now (a .reply))) (c .at-rest .ensures ∙ ap (λ (p : Phase). resting p Idle (a .c .options)) (m .after-mode .ensures))
+    ∙ unanswered (rest (afterMode (a .byte)) Idle (a .c .options) lent) (now (a .reply))
+    ∙ ap (λ (o : Out). answered o (now (a .reply))) (mode-step (a .chip) v (a .byte) none)
+    ∙ opened e
+
+receive-requires : tie.Need-receive-requires
+receive-requires c κs =
+    let e = c .before .before .before .before .before .before in
+    (known (e .before .before .before), lent-fits _ _ _ _ (accepted e))
+
+returns-4 : tie.Need-returns-4
+returns-4 c =
+    let r = c .before .before .before .before .before .before in
+    let i = r .before .before .before .before .before in
+    let e = i .before .before in
+    let a = e .before .before .before .before .before .before .before .before .args in
+    let v = view (a .c) (now (a .held)) (memory (now (a .code)) (now (a .«data»))) in
+    let frames = takes-frames (a .c .phase) (sym (i .before .listens .ensures) ∙ not-false _ (i .if1 .left)) in
+    r .receive .ensures
+    ∙ ap (λ (o : Out). answered o (now (a .reply))) (frame-step (a .chip) v (a .byte) (frames .0) (frames .1))
+    ∙ opened e
+
+pub byte-change-spec : {M : Type 1} → statement M
+byte-change-spec =
+    tie.close
+    (tie.spec
+    (λ c κs. search needs)
+    (λ c. search needs)
+    returns
+    (λ c. search needs)
+    (λ c κs. search needs)
+    (λ c κs. search needs)
+    returns-2
+    (λ c κs. search needs)
+    (λ c κs. search needs)
+    returns-3
+    receive-requires
+    (λ c. search needs)
+    (λ c. search needs)
+    (λ c. search needs)
+    returns-4)

@@ -1,0 +1,31 @@
+-- What a byte changes, as a record and an answer. Assumes nothing.
+use Prim.Native.Nat.{ℕ}
+use mathlib.Core.List.{List}
+use Rattle.rules.specs.declared.Call.{Call}
+use Rattle.rules.specs.declared.Call.the-variants.{Refused, Answer}
+use Rattle.rules.specs.Chip.{Memory}
+use Rattle.rules.specs.StandIn.{Outcome}
+use Rattle.standin_state.specs.declared.Core.{Core}
+use Rattle.standin_engine.specs.declared.Change.{Change}
+use Rattle.standin_engine.specs.declared.Change.the-variants as change
+use Rattle.standin_engine.specs.declared.CoreAfter.{CoreAfter}
+use Rattle.standin_engine.specs.View.{view, callOutcome, holds}
+
+-- the record after the byte
+abbrev pub changed : Core → Change → Core
+changed c (change.Refused r) = c
+changed c (change.Held n) = holds c n
+changed c (change.Whole h) = h .core
+
+-- the answer of its call
+abbrev pub callOf : Change → Call
+callOf (change.Refused r) = Refused r
+callOf (change.Held n) = Answer 0
+callOf (change.Whole h) = Answer (h .answered)
+
+-- what the call came to, by what it changed; and by the whole record
+abbrev pub changeOutcome : Core → Change → List ℕ → Memory → List ℕ → Outcome
+changeOutcome c x frame m reply = callOutcome (view (changed c x) frame m) (callOf x) reply
+
+abbrev pub coreOutcome : CoreAfter → List ℕ → Memory → List ℕ → Outcome
+coreOutcome t frame m reply = callOutcome (view (t .core) frame m) (t .call) reply

@@ -1,0 +1,43 @@
+-- What a device's record shows: the state that the definitions speak of. Assumes nothing.
+use Prim.Native.Nat.{ℕ}
+use mathlib.Core.Bool.{Bool, true, false, cond, _||_}
+use mathlib.Core.List.{List}
+use lib.Dec.{ltb}
+use Rattle.rules.specs.declared.Call.{Call}
+use Rattle.rules.specs.declared.Phase.{Phase}
+use Rattle.rules.specs.declared.Phase.the-variants.{Mode, Speed, Ident, Command, Silent}
+use Rattle.rules.specs.Chip.{Memory}
+use Rattle.rules.specs.Frame.{frameSize, lenOf}
+use Rattle.rules.specs.StandIn.{State, Outcome, received}
+use Rattle.standin_state.specs.declared.Core.{Core}
+
+-- a record and its frame buffer, with the flashes lent
+abbrev pub view : Core → List ℕ → Memory → State
+view c buffer m =
+    record {
+      phase = c .phase;
+      task = c .task;
+      options = c .options;
+      got = received (c .have) buffer;
+      memory = m;
+    }
+
+-- the record with so many bytes of a frame in hand
+abbrev pub holds : Core → ℕ → Core
+holds c n = record { phase = c .phase; task = c .task; options = c .options; have = n }
+
+-- what a call came to: the record's state, its answer, the reply buffer
+abbrev pub callOutcome : State → Call → List ℕ → Outcome
+callOutcome s call reply = record { state = s; call = call; reply = reply }
+
+-- how many bytes of a frame a count and a buffer hold
+unfoldable pub heldCount : ℕ → List ℕ → ℕ
+heldCount n buffer = cond (ltb n 2 || ltb n (frameSize (lenOf buffer))) n 0
+
+-- the phases that take frames
+abbrev pub listening : Phase → Bool
+listening Mode = false
+listening Speed = true
+listening Ident = true
+listening Command = true
+listening Silent = false

@@ -1,0 +1,194 @@
+// One received byte: the small state by value, the frame in hand in a lent buffer, both flashes and the reply buffer lent.
+use rules::Call;
+use rules::Chip;
+use rules::Phase;
+use rules::Refusal;
+use rules::Task;
+use rules::Verdict;
+use standin_state::Core;
+use standin_state::Response;
+ghost use mathlib.Core.Path.{_≡_};
+ghost use Prim.Native.Nat.{ℕ, _<_, _≤_};
+ghost use mathlib.Core.List.{List, []};
+ghost use lib.ListN.{length};
+ghost use Rattle.rules.specs.declared.Call.the-variants.{Answer};
+ghost use Rattle.rules.specs.Chip.{Memory};
+ghost use Rattle.rules.specs.Frame.{frameSize, lenOf};
+ghost use Rattle.rules.specs.StandIn.{byteCall, receive, answered, received};
+ghost use Rattle.chip_finder.specs.LentFlashes.{memory};
+ghost use Rattle.standin_state.specs.View.{Fits};
+ghost use Rattle.standin_engine.specs.View.{view, callOutcome, heldCount, holds, listening};
+ghost use Rattle.standin_engine.specs.Change.{changeOutcome, coreOutcome};
+
+mod frames;
+
+// What a byte changes: nothing where it is refused; else how many bytes of a frame are held, with nothing answered, or the device by a whole
+// frame or a mode byte. So a byte that only goes on with a frame does not hand the device about.
+pub enum Change {
+    Refused(Refusal),
+    Held(usize),
+    Whole(Response),
+}
+
+pub struct CoreAfter {
+    pub core: Core,
+    pub call: Call,
+}
+
+// How many bytes of a frame the buffer holds: a count that no buffer holds, or at or past its LEN's end, is none.
+pub fn held_count(have: usize, held: &[u8; 260]) -> usize
+    ensures { λ r. ⌜ (r ≡ heldCount have (now (held .entry))) × (r < 260) ⌝ }
+{
+    if have < 2 {
+        return have;
+    }
+    if have < frame_judge::frame_size(held[1]) {
+        return have;
+    }
+    0
+}
+
+// The size of the frame in hand; 0 where its LEN has not come.
+fn in_hand(have: usize, held: &[u8; 260]) -> usize
+    ensures { λ r. ⌜ r ≤ 260 ⌝ }
+    ensures { λ r. ⌜ (have < r → (2 ≤ have) × (r ≡ frameSize (lenOf (now (held .entry))))) ⌝ }
+    ensures { λ r. ⌜ (r ≤ have → (have ≡ 1 → ⊥) → received have (now (held .entry)) ≡ []) ⌝ }
+{
+    if have < 2 {
+        return 0;
+    }
+    let len = held[1];
+    frame_judge::frame_size(len)
+}
+
+// Nothing is held: the byte begins a frame if it is the start byte awaited, else it is skipped. How many bytes are then held.
+fn begin(chip: Chip, c: Core, byte: u8, held: &mut [u8; 260]) -> usize
+    requires { ⌜ (length (now held) ≡ 260) × (received (c .have) (now held) ≡ []) ⌝ }
+    ensures { λ r. ⌜ ((m : Memory) (reply : List ℕ) → callOutcome (view (holds c r) (now (held .exit)) m) (Answer 0) reply ≡ answered (receive chip (view c (now (held .entry)) m) [] byte) reply) ⌝ }
+{
+    let phase = c.phase;
+    let task = c.task;
+    if byte != standin_state::tasks::start_of(standin_state::tasks::task_now(chip, phase, task)) {
+        return 0;
+    }
+    held[0] = byte;
+    1
+}
+
+// A byte in a phase that takes frames: it begins one, goes on with one, or completes one. With two bytes no frame is whole.
+fn receive(
+    chip: Chip,
+    c: Core,
+    byte: u8,
+    held: &mut [u8; 260],
+    code: &mut [u8],
+    data: &mut [u8],
+    reply: &mut [u8],
+) -> Change
+    requires { ⌜ (length (now held) ≡ 260) × (Fits chip (now code) (now «data») (now reply)) ⌝ }
+    ensures { λ r. ⌜ changeOutcome c r (now (held .exit)) (memory (now (code .exit)) (now («data» .exit))) (now (reply .exit)) ≡ answered (receive chip (view c (now (held .entry)) (memory (now (code .entry)) (now («data» .entry)))) (received (c .have) (now (held .entry))) byte) (now (reply .entry)) ⌝ }
+{
+    let have = c.have;
+    if have == 1 {
+        held[1] = byte;
+        return Change::Held(2);
+    }
+    let size = in_hand(have, &*held);
+    if have >= size {
+        return Change::Held(begin(chip, c, byte, held));
+    }
+    held[have] = byte;
+    let n = have + 1;
+    if n == size {
+        return Change::Whole(frames::on_frame(chip, c, &*held, code, data, reply));
+    }
+    Change::Held(n)
+}
+
+// The phases that take frames: not the one that waits for a mode byte, nor silence.
+fn listens(phase: Phase) -> bool
+    ensures { λ r. ⌜ r ≡ listening phase ⌝ }
+{
+    match phase {
+        Phase::Mode => false,
+        Phase::Speed => true,
+        Phase::Ident => true,
+        Phase::Command => true,
+        Phase::Silent => false,
+    }
+}
+
+// The byte call, answered by what it changes: the refusals first, then the byte by its phase.
+pub fn byte_change(
+    chip: Chip,
+    c: Core,
+    byte: u8,
+    held: &mut [u8; 260],
+    code: &mut [u8],
+    data: &mut [u8],
+    reply: &mut [u8],
+) -> Change
+    ensures { λ r. ⌜ changeOutcome c r (now (held .exit)) (memory (now (code .exit)) (now («data» .exit))) (now (reply .exit)) ≡ byteCall chip (view c (now (held .entry)) (memory (now (code .entry)) (now («data» .entry)))) (now (reply .entry)) byte ⌝ }
+{
+    // asked for its length, the buffer is known to have 260 bytes
+    let whole: &[u8] = &*held;
+    let _room = whole.len();
+    if let Verdict::Refused(refusal) = standin_state::lent::lent_verdict(
+        chip,
+        code.len(),
+        data.len(),
+        reply.len(),
+    ) {
+        return Change::Refused(refusal);
+    }
+    let phase = c.phase;
+    if !listens(phase) {
+        if frame_judge::phase_number(phase) == 4 {
+            return Change::Held(c.have);
+        }
+        let o = c.options;
+        let core = standin_state::resting::at_rest(
+            standin_state::tasks::after_mode(byte),
+            Task::Idle,
+            o,
+        );
+        return Change::Whole(Response { core, answered: 0 });
+    }
+    receive(chip, c, byte, held, code, data, reply)
+}
+
+// The byte call, answered by the whole small state.
+pub fn byte_core(
+    chip: Chip,
+    c: Core,
+    byte: u8,
+    held: &mut [u8; 260],
+    code: &mut [u8],
+    data: &mut [u8],
+    reply: &mut [u8],
+) -> CoreAfter
+    ensures { λ r. ⌜ coreOutcome r (now (held .exit)) (memory (now (code .exit)) (now («data» .exit))) (now (reply .exit)) ≡ byteCall chip (view c (now (held .entry)) (memory (now (code .entry)) (now («data» .entry)))) (now (reply .entry)) byte ⌝ }
+{
+    let changed = byte_change(chip, c, byte, held, code, data, reply);
+    match changed {
+        Change::Refused(refusal) => CoreAfter {
+            core: c,
+            call: Call::Refused(refusal),
+        },
+        Change::Held(n) => {
+            let mut e = c;
+            e.have = n;
+            CoreAfter {
+                core: e,
+                call: Call::Answer(0),
+            }
+        }
+        Change::Whole(h) => {
+            let core = h.core;
+            CoreAfter {
+                core,
+                call: Call::Answer(h.answered),
+            }
+        }
+    }
+}

@@ -1,2 +1,0 @@
-// Frames on the line: built in lent buffers.
-pub mod build;

@@ -22,7 +22,8 @@ use Rattle.rules.specs.Sheet.{stepAt, bodyPage, verdict}
 use Rattle.rules.specs.Player.{pageFrame, awaits, emitBy, emitted, lost}
 use Rattle.sheet.proofs.Accepted.{Inside, sound, page-inside}
 use Rattle.frame_build.specs.Buffer.{Put, put, putBytes}
-use Rattle.frame_build.proofs.Buffers.{bytes-fit, length-frame}
+use Rattle.frame_build.proofs.Buffers.{bytes-fit}
+use Rattle.player_laws.proofs.Lengths.{frame-short}
 use Rattle.player_laws.proofs.PlaceInSheet.{page-stands}
 use Rattle.player_emit.specs.Emitting.{emitting, emittingBy, pageThere, pageInto, emittedIntoBy, emittedInto}
 
@@ -32,9 +33,9 @@ module _ (p : Player) (new buffer : List ℕ) (h : length new ≤ length buffer)
   pub gave-put : (n : ℕ) (b : List ℕ) → put n b ≡ putBytes new buffer → emitting p n b ≡ emitting p (length new) (over new buffer)
   gave-put n b e = ap (λ (x : Put). emitting p (x .count) (x .buffer)) (e ∙ bytes-fit new buffer h)
 
--- a frame has room
+-- a frame has room where 260 bytes have
 pub frame-room : (start end : ℕ) (body b : List ℕ) → length body ≤ 256 → 260 ≤ length b → length (frame start end body) ≤ length b
-frame-room start end body b h g = omega (arith, length-frame start end body)
+frame-room start end body b h g = omega (arith, frame-short start end body h)
 
 -- ---- a page of the body ----
 

@@ -26,7 +26,7 @@ use Rattle.player_laws.proofs.PlaceInSheet.{allowed-call}
 -- ---- the frame given ----
 
 -- of a body of at most a page
-frame-short : (start end : ℕ) (body : List ℕ) → length body ≤ pageSize → length (frame start end body) ≤ frameRoom
+pub frame-short : (start end : ℕ) (body : List ℕ) → length body ≤ pageSize → length (frame start end body) ≤ frameRoom
 frame-short start end body h = omega (arith, length-frame start end body)
 
 ready-short : (k : Kind) (t : Step) (p : Player) → length (emitReady k t p .bytes) ≤ frameRoom

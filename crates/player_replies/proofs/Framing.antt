@@ -11,6 +11,7 @@ use borrow.Author.Tests.{eq-eqb, ne-eqb, eqb-true, eqb-false}
 use Rattle.rules.specs.declared.Status.the-variants.{Byte, L1}
 use Rattle.rules.specs.Chip.{byteAt, total, same}
 use Rattle.rules.specs.Player.{well, framed, commandReply, sumReply, dataReply}
+use Rattle.rules.proofs.Choices.{and-false}
 use Rattle.octets.proofs.Lists.{same-equal}
 use Rattle.frame_build.proofs.Sum.{total-frame, sum-same}
 
@@ -123,11 +124,7 @@ ack-only a b c d e h = go (eqb a 0x02) (eqb b 0x01) (eqb c 0x06) refl refl refl
     go : (x y z : Bool) → eqb a 0x02 ≡ x → eqb b 0x01 ≡ y → eqb c 0x06 ≡ z
         → ((x && y && eqb ((b + (c + (d + 0))) % 256) 0 && eqb e 0x03) && z) ≡ cond x (cond y (cond z (cond (eqb d 0xF9) (cond (eqb e 0x03) true false) false) false) false) false
     go true true true p q r = rw (sum-only (eqb-true b 0x01 q) (eqb-true c 0x06 r)) (ends (eqb d 0xF9) (eqb e 0x03))
-    go true true false p q r = never (eqb ((b + (c + (d + 0))) % 256) 0 && eqb e 0x03)
-      where
-        never : (x : Bool) → (x && false) ≡ false
-        never true = refl
-        never false = refl
+    go true true false p q r = and-false (eqb ((b + (c + (d + 0))) % 256) 0 && eqb e 0x03)
     go true false z p q r = refl
     go false y z p q r = refl
 

@@ -74,29 +74,19 @@ whole g = leb 2 (length g) && eqb (length g) (frameSize (lenOf g))
 
 -- ---- Status bytes and their order ----
 
--- the place in 01's table, and the byte
-pub record Row : Type 0 where
-  pub place : ℕ
-  pub byte : ℕ
-
-abbrev row : ℕ → ℕ → Row
-row p b = record { place = p; byte = b }
-
-abbrev pub statusRow : Fault → Row
-statusRow Well = row 0 0x06
-statusRow EndByte = row 1 0x15
-statusRow Sum = row 2 0x07
-statusRow Code = row 3 0x04
-statusRow Length = row 4 0x15
-statusRow Parameter = row 5 0x05
-statusRow Ident = row 6 0x24
-statusRow NotBlank = row 7 0x1B
-statusRow Protected = row 8 0x10
-statusRow PageNotBlank = row 9 0x1C
-statusRow Difference = row 10 0x0F
-
+-- the byte of each row of 01's table, in its order; 06h is none of them
 abbrev pub statusByte : Fault → ℕ
-statusByte f = statusRow f .byte
+statusByte Well = 0x06
+statusByte EndByte = 0x15
+statusByte Sum = 0x07
+statusByte Code = 0x04
+statusByte Length = 0x15
+statusByte Parameter = 0x05
+statusByte Ident = 0x24
+statusByte NotBlank = 0x1B
+statusByte Protected = 0x10
+statusByte PageNotBlank = 0x1C
+statusByte Difference = 0x0F
 
 -- a data frame: 15h also "03h for 17h or the reverse"; then SUM; then "data LEN not 00h"
 unfoldable pub dataFault : Bool → List ℕ → Fault

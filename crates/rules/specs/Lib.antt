@@ -11,4 +11,6 @@ pub mod Player
 pub mod Numbers
 pub mod Run
 pub mod Compute
+pub mod Rows
+pub mod Starred
 pub mod Trials

@@ -1,6 +1,6 @@
 -- 01, Phases and Commands: the stand-in. What a whole frame does (`onFrame`), and under it one received byte (`step`). Assumes nothing.
 use Prim.Native.Nat.{ℕ, _+_, _-_}
-use mathlib.Core.Bool.{Bool, cond, not, _&&_, _||_}
+use mathlib.Core.Bool.{Bool, true, false, cond, not, _&&_, _||_}
 use mathlib.Core.List.{List, [], _∷_, _++_}
 use lib.Dec.{ltb, leb, eqb}
 use lib.ListN.{length, take}
@@ -15,7 +15,8 @@ use Rattle.rules.specs.declared.Task.the-variants.{Idle, Programming, Ve
 use Rattle.rules.specs.declared.Judged.{Judged}
 use Rattle.rules.specs.declared.Judged.the-variants.{Faulty, Ordered}
 use Rattle.rules.specs.declared.Fault.{Fault}
-use Rattle.rules.specs.declared.Fault.the-variants.{Protected, PageNotBlank, Difference}
+use Rattle.rules.specs.declared.Fault.the-variants.{Well, EndByte, Sum, Length, Parameter, NotBlank, Protected, PageNotBlank, Difference}
+use Rattle.rules.specs.declared.Fault.the-variants as fault
 use Rattle.rules.specs.declared.Call.{Call}
 use Rattle.rules.specs.declared.Call.the-variants.{Refused, Answer}
 use Rattle.rules.specs.declared.Refusal.the-variants.{D1, D2, D3}
@@ -24,15 +25,25 @@ use Rattle.rules.specs.declared.Verdict.the-variants as verdict
 use Rattle.rules.specs.First.{rule, firstFault, refuse, firstBroken, andThen}
 use Rattle.rules.specs.Chip.{Memory, flashSize, same, blank, over, pages, pageOf, putPage, blockOfPage}
 use Rattle.rules.specs.Options.{IFPR, writeProtected}
-use Rattle.rules.specs.Frame.{commandStart, dataStart, frameSize, one, pair, lenOf, bodyOf, whole, statusRow, statusByte, dataFault}
+use Rattle.rules.specs.Frame.{commandStart, dataStart, frameSize, one, pair, lenOf, bodyOf, whole, statusByte, dataFault}
 use Rattle.rules.specs.Command.{judged, done}
 pub use Rattle.rules.specs.State.{State, Out, Effect, out, rest}
 
 -- ---- a whole frame ----
 
--- "A LEN, parameter or ID fault in 9Ah or 9Ch is answered and then the chip is Silent": rows 4 to 6, in Speed and Ident
+-- "A LEN, parameter or ID fault in 9Ah or 9Ch is answered and then the chip is Silent"
 abbrev pub silences : Fault → Bool
-silences v = leb 4 (statusRow v .place) && leb (statusRow v .place) 6
+silences Well = false
+silences EndByte = false
+silences Sum = false
+silences fault.Code = false
+silences Length = true
+silences Parameter = true
+silences fault.Ident = true
+silences NotBlank = false
+silences Protected = false
+silences PageNotBlank = false
+silences Difference = false
 
 abbrev pub phaseAfter : Phase → Fault → Phase
 phaseAfter Mode v = Mode

@@ -1,201 +1,27 @@
--- 01, Trials: the starred ones, 1 to 12, as one table; a second table of further sessions and a third of sheets. Assumes nothing.
-use Prim.Native.Nat.{ℕ, _+_}
-use mathlib.Core.Bool.{Bool, true, cond, _&&_}
+-- Further tables of trials: sessions, sheets, single calls. Assumes nothing.
 use mathlib.Core.List.{List, [], _∷_, _++_}
-use lib.Dec.{eqb}
-use lib.ListN.{set, replicate}
-use Rattle.rules.specs.declared.Chip.{Chip}
-use Rattle.rules.specs.declared.Flash.the-variants.{Data}
+use mathlib.Core.Bool.{true}
+use Prim.Native.Nat.{ℕ}
+use lib.ListN.{set, take, replicate}
 use Rattle.rules.specs.declared.Options.{Options}
-use Rattle.rules.specs.declared.Report.{Report}
-use Rattle.rules.specs.Chip.{Memory, small, same, freshMemory, putPage, pageSize, wordBytes}
-use Rattle.rules.specs.Options.{freshOptions}
-use Rattle.rules.specs.Frame.{commandStart, dataStart, lastEnd, moreEnd, frame, sumByte}
-use Rattle.rules.specs.Command.{phaseNumber}
-use Rattle.rules.specs.StandIn.{State, feed, powered}
-use Rattle.rules.specs.Sheet.{verdict}
-use Rattle.rules.specs.Meaning.{Ended, meaning}
+use Rattle.rules.specs.declared.Player.{Player}
+use Rattle.rules.specs.declared.Stage.the-variants.{Erased, Opened, Summed, Page, Paged, Over}
+use Rattle.rules.specs.declared.Status.the-variants.{Byte}
 use Rattle.rules.specs.declared.numbers.Number.{Number}
-use Rattle.rules.specs.Numbers.{verdictNumber, statusNumber}
-use Rattle.rules.specs.Run.{Joined, allBytes, clean, joinedAtStart, run, waits}
+use Rattle.rules.specs.Chip.{Memory, small}
+use Rattle.rules.specs.Options.{freshOptions}
+use Rattle.rules.specs.Frame.{dataStart, lastEnd, moreEnd, frame}
+use Rattle.rules.specs.Player.{player, newPlayer, well}
+use Rattle.rules.specs.Rows.{plain, D, J, P, L, Exchange, to, Session, Play, noSums, mode, speed, Lending, Calling, blankFlash, ack, session, onFresh, optioned, ending, flags, noBoot, noErase, noWrite, askIdent, command, filled, page, badSum, one, pair, onePage, twoPages, paged, entry}
 
--- ---- a session: stored options and flash, power-on, bytes; the bytes answered, and what stands afterwards ----
-
-pub record Session : Type 0 where
-  pub chip : Chip
-  pub options : Options
-  pub memory : Memory
-  pub bytes : List ℕ
-  pub answers : List ℕ
-  pub phase : ℕ
-  pub optionsAfter : Options
-  pub memoryAfter : Memory
-
-abbrev pub sameOptions : Options → Options → Bool
-sameOptions a b =
-    eqb (a .sf1) (b .sf1) && eqb (a .sf2) (b .sf2) && eqb (a .sws) (b .sws) && eqb (a .swe) (b .swe)
-
-abbrev pub sameMemory : Memory → Memory → Bool
-sameMemory a b = same (a .code) (b .code) && same (a .«data») (b .«data»)
-
-unfoldable pub holds : Session → Bool
-holds t =
-    let fed = feed (t .chip) (powered (t .options) (t .memory)) (t .bytes) in
-    same (allBytes (fed .answers)) (t .answers)
-    && eqb (phaseNumber (fed .state .phase)) (t .phase)
-    && sameOptions (fed .state .options) (t .optionsAfter)
-    && sameMemory (fed .state .memory) (t .memoryAfter)
-
-unfoldable pub allHold : List Session → Bool
-allHold [] = true
-allHold (t ∷ ts) = holds t && allHold ts
-
--- the opening: mode 3Ah, 9Ah with BRT 0 and VDD 21h; and what the chip answers to it
-abbrev opening : List ℕ
-opening = 0x3A ∷ 0x01 ∷ 0x03 ∷ 0x9A ∷ 0x00 ∷ 0x21 ∷ 0x42 ∷ 0x03 ∷ []
-
-abbrev opened : List ℕ
-opened = 0x02 ∷ 0x03 ∷ 0x06 ∷ 0x20 ∷ 0x00 ∷ 0xD7 ∷ 0x03 ∷ []
-
--- a session opened to phase Command that leaves options as they were
-abbrev session : Options → Memory → List ℕ → List ℕ → Memory → Session
-session o m bytes answers after =
-    record {
-      chip = small;
-      options = o;
-      memory = m;
-      bytes = opening ++ bytes;
-      answers = opened ++ answers;
-      phase = 3;
-      optionsAfter = o;
-      memoryAfter = after;
-    }
-
-abbrev blankFlash : Memory
-blankFlash = freshMemory small
-
--- a fresh chip's answer to bytes that change nothing
-abbrev onFresh : List ℕ → List ℕ → Session
-onFresh bytes answers = session freshOptions blankFlash bytes answers blankFlash
-
-abbrev ack : List ℕ
-ack = 0x02 ∷ 0x01 ∷ 0x06 ∷ 0xF9 ∷ 0x03 ∷ []
-
--- options with BTPR 0, and with SEPR, WRPR or IDEN 0
-abbrev flags : ℕ → ℕ → Options
-flags sf1 sf2 = record { sf1 = sf1; sf2 = sf2; sws = 0xFFFF; swe = 0xFFFF }
-
-abbrev noBoot : Options
-noBoot = flags 0xFD 0xFF
-
-abbrev noErase : Options
-noErase = flags 0xFB 0xFF
-
-abbrev noWrite : Options
-noWrite = flags 0xEF 0xFF
-
-abbrev askIdent : Options
-askIdent = flags 0xFF 0xFE
-
--- Programming and Verify of F1000h to F11FFh, a page of one byte's copies, and data frames of it
-abbrev command : List ℕ → List ℕ
-command body = frame commandStart lastEnd body
-
-abbrev twoPages : ℕ → List ℕ
-twoPages code = command (code ∷ 0x00 ∷ 0x10 ∷ 0x0F ∷ 0xFF ∷ 0x11 ∷ 0x0F ∷ [])
-
-abbrev filled : ℕ → List ℕ
-filled b = replicate pageSize b
-
-abbrev sent : ℕ → ℕ → List ℕ
-sent end b = frame dataStart end (filled b)
-
-abbrev badSum : ℕ → List ℕ
-badSum b = dataStart ∷ 0x00 ∷ (filled b ++ ((sumByte (filled b) + 1) ∷ lastEnd ∷ []))
-
--- data flash with page k so filled
-abbrev paged : ℕ → ℕ → Memory → Memory
-paged k b m = putPage m Data k (filled b)
-
--- ---- the starred trials ----
-
-unfoldable pub starred : List Session
-starred =
-    -- 1, 2, 3, 4
-    onFresh (0x01 ∷ 0x01 ∷ 0x00 ∷ 0xFF ∷ 0x03 ∷ []) (0x02 ∷ 0x01 ∷ 0x06 ∷ 0xF9 ∷ 0x03 ∷ [])
-    ∷ onFresh (0x01 ∷ 0x01 ∷ 0x00 ∷ 0xFE ∷ 0x03 ∷ []) (0x02 ∷ 0x01 ∷ 0x07 ∷ 0xF8 ∷ 0x03 ∷ [])
-    ∷ onFresh (0x01 ∷ 0x01 ∷ 0x00 ∷ 0xFE ∷ 0x17 ∷ []) (0x02 ∷ 0x01 ∷ 0x15 ∷ 0xEA ∷ 0x03 ∷ [])
-    ∷ onFresh (0x01 ∷ 0x01 ∷ 0x55 ∷ 0xAA ∷ 0x03 ∷ []) (0x02 ∷ 0x01 ∷ 0x04 ∷ 0xFB ∷ 0x03 ∷ [])
-    -- 5, 6
-    ∷ onFresh
-    (0x01 ∷ 0x01 ∷ 0xA1 ∷ 0x5E ∷ 0x03 ∷ [])
-    (ack ++ (0x02 ∷ 0x03 ∷ 0x17 ∷ 0x1D ∷ 0x00 ∷ 0xC9 ∷ 0x03 ∷ []))
-    ∷ onFresh
-    (0x01 ∷ 0x01 ∷ 0xAD ∷ 0x52 ∷ 0x03 ∷ [])
-    (ack ++ (0x02 ∷ 0x04 ∷ 0x00 ∷ 0x80 ∷ 0x0F ∷ 0x80 ∷ 0xED ∷ 0x03 ∷ []))
-    -- 7, 8
-    ∷ onFresh
-    (0x01 ∷ 0x07 ∷ 0xB0 ∷ 0x00 ∷ 0x10 ∷ 0x0F ∷ 0xFF ∷ 0x10 ∷ 0x0F ∷ 0x0C ∷ 0x03 ∷ [])
-    (ack ++ (0x02 ∷ 0x02 ∷ 0x00 ∷ 0x01 ∷ 0xFD ∷ 0x03 ∷ []))
-    ∷ onFresh
-    (0x01 ∷ 0x07 ∷ 0xB0 ∷ 0x00 ∷ 0x10 ∷ 0x0F ∷ 0xFE ∷ 0x10 ∷ 0x0F ∷ 0x0D ∷ 0x03 ∷ [])
-    (0x02 ∷ 0x01 ∷ 0x05 ∷ 0xFA ∷ 0x03 ∷ [])
-    -- 9
-    ∷ session
-    noBoot
-    blankFlash
-    (0x01 ∷ 0x04 ∷ 0x22 ∷ 0x00 ∷ 0x08 ∷ 0x00 ∷ 0xD2 ∷ 0x03
-    ∷ 0x01 ∷ 0x04 ∷ 0x22 ∷ 0x00 ∷ 0x40 ∷ 0x00 ∷ 0x9A ∷ 0x03 ∷ [])
-    ((0x02 ∷ 0x01 ∷ 0x10 ∷ 0xEF ∷ 0x03 ∷ []) ++ ack)
-    blankFlash
-    -- 10: the first page not blank
-    ∷ session
-    freshOptions
-    (paged 0 0x00 blankFlash)
-    (twoPages 0x40 ++ sent moreEnd 0xA5 ++ sent lastEnd 0x5A)
-    (ack ++ (0x02 ∷ 0x02 ∷ 0x06 ∷ 0x06 ∷ 0xF2 ∷ 0x03 ∷ 0x02 ∷ 0x02 ∷ 0x06 ∷ 0x1C ∷ 0xDC ∷ 0x03 ∷ []))
-    (paged 0 0x00 blankFlash)
-    -- 11: the second page not blank
-    ∷ session
-    freshOptions
-    (paged 1 0x00 blankFlash)
-    (twoPages 0x40 ++ sent moreEnd 0xA5 ++ sent lastEnd 0x5A)
-    (ack ++ (0x02 ∷ 0x02 ∷ 0x06 ∷ 0x06 ∷ 0xF2 ∷ 0x03 ∷ 0x02 ∷ 0x02 ∷ 0x06 ∷ 0x1C ∷ 0xDC ∷ 0x03 ∷ []))
-    (paged 0 0xA5 (paged 1 0x00 blankFlash))
-    -- 12: as 10, the second frame's SUM wrong
-    ∷ session
-    freshOptions
-    (paged 0 0x00 blankFlash)
-    (twoPages 0x40 ++ sent moreEnd 0xA5 ++ badSum 0x5A)
-    (ack ++ (0x02 ∷ 0x02 ∷ 0x06 ∷ 0x06 ∷ 0xF2 ∷ 0x03 ∷ 0x02 ∷ 0x02 ∷ 0x07 ∷ 0x1C ∷ 0xDB ∷ 0x03 ∷ []))
-    (paged 0 0x00 blankFlash)
-    ∷ []
-
--- ---- further sessions ----
+-- ---- sessions ----
 
 -- 001, section 7.12
 abbrev cancel : List ℕ
 cancel = 0x02 ∷ 0x01 ∷ 0x00 ∷ 0xFF ∷ 0xFF ∷ []
 
-abbrev one : ℕ → List ℕ
-one a = frame dataStart lastEnd (a ∷ [])
-
-abbrev pair : ℕ → ℕ → List ℕ
-pair a b = frame dataStart lastEnd (a ∷ b ∷ [])
-
--- a session that ends in another phase, or with other options
-abbrev ending : ℕ → Options → Options → Memory → List ℕ → List ℕ → Session
-ending phase o after m bytes answers =
-    record {
-      chip = small;
-      options = o;
-      memory = m;
-      bytes = bytes;
-      answers = answers;
-      phase = phase;
-      optionsAfter = after;
-      memoryAfter = m;
-    }
+abbrev reset : Exchange
+reset = to (command (0x00 ∷ [])) ack
 
 abbrev wrongIdent : List ℕ
 wrongIdent = command (0x9C ∷ replicate 9 0xFF ++ (0x00 ∷ []))
@@ -203,200 +29,187 @@ wrongIdent = command (0x9C ∷ replicate 9 0xFF ++ (0x00 ∷ []))
 abbrev rightIdent : List ℕ
 rightIdent = command (0x9C ∷ replicate 10 0xFF)
 
+-- mode and speed, as they are answered
+abbrev opening : List Exchange
+opening = to mode [] ∷ to speed (frame dataStart lastEnd (0x06 ∷ 0x20 ∷ 0x00 ∷ [])) ∷ []
+
+-- 9Ah with that BRT and VDD, answered well and refused
+abbrev rated : ℕ → ℕ → Session
+rated brt vdd =
+    record {
+      chip = small;
+      options = freshOptions;
+      memory = blankFlash;
+      exchanges = to mode [] ∷ to (command (0x9A ∷ brt ∷ vdd ∷ [])) (frame dataStart lastEnd (0x06 ∷ 0x20 ∷ 0x00 ∷ [])) ∷ [];
+      phase = 3;
+      waiting = true;
+      optionsAfter = freshOptions;
+      memoryAfter = blankFlash;
+    }
+
+abbrev unrated : ℕ → ℕ → Session
+unrated brt vdd =
+    ending 4 freshOptions freshOptions (to (0x00 ∷ []) [] ∷ to (command (0x9A ∷ brt ∷ vdd ∷ [])) (one 0x05) ∷ to speed [] ∷ [])
+
+-- code flash with one byte used
+abbrev usedCode : ℕ → Memory
+usedCode i = record { code = set (blankFlash .code) i 0x00; «data» = blankFlash .«data» }
+
 unfoldable pub further : List Session
 further =
-    -- a Verify difference in the first of two pages is told only at the end
+    -- a Verify difference in the first of two pages is told only at the end; and no difference
     session
     freshOptions
     (paged 1 0x5A blankFlash)
-    (twoPages 0x13 ++ sent moreEnd 0xA5 ++ sent lastEnd 0x5A)
-    (ack ++ pair 0x06 0x06 ++ pair 0x06 0x0F)
+    (to (twoPages 0x13) ack ∷ to (page moreEnd 0xA5) (pair 0x06 0x06) ∷ to (page lastEnd 0x5A) (pair 0x06 0x0F) ∷ [])
     (paged 1 0x5A blankFlash)
     ∷ session
     freshOptions
     (paged 0 0xA5 (paged 1 0x5A blankFlash))
-    (twoPages 0x13 ++ sent moreEnd 0xA5 ++ sent lastEnd 0x5A)
-    (ack ++ pair 0x06 0x06 ++ pair 0x06 0x06)
+    (to (twoPages 0x13) ack ∷ to (page moreEnd 0xA5) (pair 0x06 0x06) ∷ to (page lastEnd 0x5A) (pair 0x06 0x06) ∷ [])
     (paged 0 0xA5 (paged 1 0x5A blankFlash))
     -- a frame fault after a difference does not tell it
     ∷ session
     freshOptions
     blankFlash
-    (twoPages 0x13 ++ sent moreEnd 0xA5 ++ badSum 0xFF)
-    (ack ++ pair 0x06 0x06 ++ pair 0x07 0x06)
+    (to (twoPages 0x13) ack ∷ to (page moreEnd 0xA5) (pair 0x06 0x06) ∷ to (badSum 0xFF) (pair 0x07 0x06) ∷ [])
     blankFlash
     -- the cancel frame at a first page and at a later one, in Programming and in Verify; a command is taken again
-    ∷ onFresh (twoPages 0x40 ++ cancel ++ command (0x00 ∷ [])) (ack ++ pair 0x15 0x06 ++ ack)
     ∷ session
     freshOptions
     blankFlash
-    (twoPages 0x40 ++ sent moreEnd 0xA5 ++ cancel ++ command (0x00 ∷ []))
-    (ack ++ pair 0x06 0x06 ++ pair 0x15 0x06 ++ ack)
+    (to (twoPages 0x40) ack ∷ to cancel (pair 0x15 0x06) ∷ reset ∷ [])
+    blankFlash
+    ∷ session
+    freshOptions
+    blankFlash
+    (to (twoPages 0x40) ack ∷ to (page moreEnd 0xA5) (pair 0x06 0x06) ∷ to cancel (pair 0x15 0x06) ∷ reset ∷ [])
     (paged 0 0xA5 blankFlash)
+    ∷ session
+    freshOptions
+    blankFlash
+    (to (twoPages 0x13) ack ∷ to (page moreEnd 0xA5) (pair 0x06 0x06) ∷ to cancel (pair 0x15 0x06) ∷ reset ∷ [])
+    blankFlash
+    -- 03h for 17h; 17h as a byte of a page
+    ∷ session freshOptions blankFlash (to (twoPages 0x40) ack ∷ to (page lastEnd 0xA5) (pair 0x15 0x06) ∷ []) blankFlash
+    ∷ session
+    freshOptions
+    blankFlash
+    (to (onePage 0x40) ack ∷ to (page lastEnd 0x17) (pair 0x06 0x06) ∷ [])
+    (paged 0 0x17 blankFlash)
+    -- a page not blank, alone; a protected page: 10h, told at the last page; then at the page after
+    ∷ session
+    freshOptions
+    (paged 0 0x00 blankFlash)
+    (to (onePage 0x40) ack ∷ to (page lastEnd 0xA5) (pair 0x06 0x1C) ∷ [])
+    (paged 0 0x00 blankFlash)
+    ∷ session
+    noWrite
+    blankFlash
+    (to (onePage 0x40) ack ∷ to (page lastEnd 0xA5) (pair 0x06 0x10) ∷ [])
+    blankFlash
+    ∷ session
+    noWrite
+    blankFlash
+    (to (twoPages 0x40) ack ∷ to (page moreEnd 0xA5) (pair 0x06 0x06) ∷ to (page lastEnd 0xA5) (pair 0x06 0x10) ∷ [])
+    blankFlash
+    -- two code blocks, page by page; the last page of data flash, and one past it; the last code block, and one past it
+    ∷ session
+    freshOptions
+    blankFlash
+    (to (command (0x40 ∷ 0x00 ∷ 0x00 ∷ 0x00 ∷ 0xFF ∷ 0x0F ∷ 0x00 ∷ [])) ack
+    ∷ (replicate 15 (to (page moreEnd 0xA5) (pair 0x06 0x06)) ++ (to (page lastEnd 0xA5) (pair 0x06 0x06) ∷ [])))
+    (record { code = replicate 4096 0xA5 ++ replicate 28672 0xFF; «data» = blankFlash .«data» })
+    ∷ session
+    freshOptions
+    blankFlash
+    (to (command (0x40 ∷ 0x00 ∷ 0x17 ∷ 0x0F ∷ 0xFF ∷ 0x17 ∷ 0x0F ∷ [])) ack ∷ to (page lastEnd 0xA5) (pair 0x06 0x06) ∷ [])
+    (paged 7 0xA5 blankFlash)
+    ∷ onFresh (command (0x40 ∷ 0x00 ∷ 0x18 ∷ 0x0F ∷ 0xFF ∷ 0x18 ∷ 0x0F ∷ [])) (one 0x05)
     ∷ onFresh
-    (twoPages 0x13 ++ sent moreEnd 0xA5 ++ cancel ++ command (0x00 ∷ []))
-    (ack ++ pair 0x06 0x06 ++ pair 0x15 0x06 ++ ack)
-    -- 03h for 17h
-    ∷ onFresh (twoPages 0x40 ++ sent lastEnd 0xA5) (ack ++ pair 0x15 0x06)
-    -- a protected page: 10h, told at the last page; then at the page after
-    ∷ session
-    noWrite
-    blankFlash
-    (command (0x40 ∷ 0x00 ∷ 0x10 ∷ 0x0F ∷ 0xFF ∷ 0x10 ∷ 0x0F ∷ []) ++ sent lastEnd 0xA5)
-    (ack ++ pair 0x06 0x10)
-    blankFlash
-    ∷ session
-    noWrite
-    blankFlash
-    (twoPages 0x40 ++ sent moreEnd 0xA5 ++ sent lastEnd 0xA5)
-    (ack ++ pair 0x06 0x06 ++ pair 0x06 0x10)
-    blankFlash
-    -- boot cluster 0 has no data block: with BTPR 0 data block 0 is erased and written
+    (command (0xB0 ∷ 0x00 ∷ 0x78 ∷ 0x00 ∷ 0xFF ∷ 0x7F ∷ 0x00 ∷ []))
+    (ack ++ frame dataStart lastEnd (0x00 ∷ 0x08 ∷ []))
+    ∷ onFresh (command (0xB0 ∷ 0x00 ∷ 0x80 ∷ 0x00 ∷ 0xFF ∷ 0x87 ∷ 0x00 ∷ [])) (one 0x05)
+    -- while data is awaited, and with a frame half received, the stand-in does not wait for a command
+    ∷ ending
+    3
+    freshOptions
+    freshOptions
+    (opening ++ (to (twoPages 0x13) ack ∷ to (page moreEnd 0xA5) (pair 0x06 0x06) ∷ []))
+    ∷ ending 3 freshOptions freshOptions (opening ++ (to (0x01 ∷ 0x01 ∷ 0x00 ∷ []) [] ∷ []))
+    -- boot cluster 0: with BTPR 0 data block 0 is erased and written, and a code block outside it that is not blank is erased
     ∷ session
     noBoot
     (paged 0 0x00 blankFlash)
-    (command (0x22 ∷ 0x00 ∷ 0x10 ∷ 0x0F ∷ []) ++ twoPages 0x40 ++ sent moreEnd 0xA5 ++ sent lastEnd 0xFF)
-    (ack ++ ack ++ pair 0x06 0x06 ++ pair 0x06 0x06)
+    (to (command (0x22 ∷ 0x00 ∷ 0x10 ∷ 0x0F ∷ [])) ack
+    ∷ to (twoPages 0x40) ack
+    ∷ to (page moreEnd 0xA5) (pair 0x06 0x06)
+    ∷ to (page lastEnd 0xFF) (pair 0x06 0x06)
+    ∷ [])
     (paged 0 0xA5 blankFlash)
+    ∷ session noBoot (usedCode 16384) (to (command (0x22 ∷ 0x00 ∷ 0x40 ∷ 0x00 ∷ [])) ack ∷ []) blankFlash
     -- 13: mode 3Bh; a wrong ID, then Silent; the right one
-    ∷ ending 4 freshOptions freshOptions blankFlash (0x3B ∷ command (0x00 ∷ [])) []
-    ∷ ending
-    4
-    askIdent
-    askIdent
-    blankFlash
-    (opening ++ wrongIdent ++ rightIdent)
-    (opened ++ (0x02 ∷ 0x01 ∷ 0x24 ∷ 0xDB ∷ 0x03 ∷ []))
-    ∷ ending 3 askIdent askIdent blankFlash (opening ++ rightIdent ++ command (0x00 ∷ [])) (opened ++ ack ++ ack)
+    ∷ ending 4 freshOptions freshOptions (to (0x3B ∷ []) [] ∷ to (command (0x00 ∷ [])) [] ∷ [])
+    ∷ ending 4 askIdent askIdent (opening ++ (to wrongIdent (0x02 ∷ 0x01 ∷ 0x24 ∷ 0xDB ∷ 0x03 ∷ []) ∷ to rightIdent [] ∷ []))
+    ∷ optioned askIdent askIdent (to rightIdent ack ∷ reset ∷ [])
+    -- 9Ah and 9Ch outside their phase: 04h, and the phase stays
+    ∷ ending 2 askIdent askIdent (opening ++ (to speed (one 0x04) ∷ to (command (0x00 ∷ [])) (one 0x04) ∷ []))
+    ∷ onFresh speed (one 0x04)
+    -- IFPR 0: Silent from the power-on
+    ∷ ending 4 (flags 0xFF 0xFB) (flags 0xFF 0xFB) (to mode [] ∷ to speed [] ∷ [])
     -- 14: Release with one byte 00h and SEPR 0; with SEPR 0 alone; with neither
     ∷ session
     noErase
-    (record { code = set (blankFlash .code) 5 0x00; «data» = blankFlash .«data» })
-    (command (0xA2 ∷ []))
-    (0x02 ∷ 0x01 ∷ 0x1B ∷ 0xE4 ∷ 0x03 ∷ [])
-    (record { code = set (blankFlash .code) 5 0x00; «data» = blankFlash .«data» })
-    ∷ session noErase blankFlash (command (0xA2 ∷ [])) (one 0x10) blankFlash
-    ∷ ending
-    3
+    (usedCode 5)
+    (to (command (0xA2 ∷ [])) (0x02 ∷ 0x01 ∷ 0x1B ∷ 0xE4 ∷ 0x03 ∷ []) ∷ [])
+    (usedCode 5)
+    ∷ session noErase blankFlash (to (command (0xA2 ∷ [])) (one 0x10) ∷ []) blankFlash
+    ∷ optioned
     (record { sf1 = 0xEF; sf2 = 0xE6; sws = 0x7E00; swe = 0x0001 })
     (record { sf1 = 0xFF; sf2 = 0xFF; sws = 0xFFFF; swe = 0x81FF })
-    blankFlash
-    (opening ++ rightIdent ++ command (0xA2 ∷ []))
-    (opened ++ ack ++ ack)
+    (to rightIdent ack ∷ to (command (0xA2 ∷ [])) ack ∷ [])
     -- A0h has LEN 4; what it clears stays cleared; IFPR cleared is not answered
-    ∷ ending
-    3
+    ∷ optioned
     freshOptions
     (flags 0xFB 0xFE)
-    blankFlash
-    (opening ++ command (0xA0 ∷ 0x1A ∷ 0xFE ∷ 0x77 ∷ []) ++ command (0xA0 ∷ 0xFF ∷ 0xFF ∷ 0x00 ∷ []))
-    (opened ++ ack ++ ack)
+    (to (command (0xA0 ∷ 0x1A ∷ 0xFE ∷ 0x77 ∷ [])) ack ∷ to (command (0xA0 ∷ 0xFF ∷ 0xFF ∷ 0x00 ∷ [])) ack ∷ [])
     ∷ ending
     4
     freshOptions
     (flags 0xFF 0xFB)
-    blankFlash
-    (opening ++ command (0xA0 ∷ 0xFF ∷ 0xFB ∷ 0x00 ∷ []) ++ command (0x00 ∷ []))
-    opened
-    -- the window is stored in its named bits, shown, and then FSPR is 0
-    ∷ ending
-    3
+    (opening ++ (to (command (0xA0 ∷ 0xFF ∷ 0xFB ∷ 0x00 ∷ [])) [] ∷ to (command (0x00 ∷ [])) [] ∷ []))
+    -- both words of the window are stored in their named bits and shown; then, with FSPR 0, refused
+    ∷ optioned
     freshOptions
     (record { sf1 = 0xFF; sf2 = 0xFF; sws = 0x7E02; swe = 0xFF40 })
-    blankFlash
-    (opening
-    ++ command (0xAC ∷ 0x02 ∷ 0x00 ∷ 0x40 ∷ 0x81 ∷ [])
-    ++ command (0xAD ∷ [])
-    ++ command (0xAC ∷ 0x00 ∷ 0x00 ∷ 0x00 ∷ 0x00 ∷ []))
-    (opened ++ ack ++ ack ++ frame dataStart lastEnd (0x02 ∷ 0x00 ∷ 0x40 ∷ 0x81 ∷ []) ++ one 0x10)
-    -- the status bytes not met above: end byte, SUM and code of a command; a page not blank, alone
+    (to (command (0xAC ∷ 0x02 ∷ 0x00 ∷ 0x40 ∷ 0x81 ∷ [])) ack
+    ∷ to (command (0xAD ∷ [])) (ack ++ frame dataStart lastEnd (0x02 ∷ 0x00 ∷ 0x40 ∷ 0x81 ∷ []))
+    ∷ to (command (0xAC ∷ 0x00 ∷ 0x00 ∷ 0x00 ∷ 0x00 ∷ [])) (one 0x10)
+    ∷ [])
+    ∷ optioned
+    freshOptions
+    (record { sf1 = 0xFF; sf2 = 0xFF; sws = 0xFFAA; swe = 0x7F55 })
+    (to (command (0xAC ∷ 0xAA ∷ 0x81 ∷ 0x55 ∷ 0x01 ∷ [])) ack
+    ∷ to (command (0xAD ∷ [])) (ack ++ frame dataStart lastEnd (0xAA ∷ 0x81 ∷ 0x55 ∷ 0x01 ∷ []))
+    ∷ [])
+    -- BRT and VDD at their ends; a faulty 9Ah is answered and then nothing
+    ∷ rated 3 0x10
+    ∷ rated 0 0x37
+    ∷ unrated 4 0x21
+    ∷ unrated 0 0x0F
+    ∷ unrated 0 0x38
+    -- the status bytes not met above: end byte, SUM and code of a command; LEN not the command's; an erase address inside a block
     ∷ onFresh (0x01 ∷ 0x01 ∷ 0x00 ∷ 0xFF ∷ 0x17 ∷ []) (one 0x15)
     ∷ onFresh (0x01 ∷ 0x01 ∷ 0x00 ∷ 0x00 ∷ 0x03 ∷ []) (one 0x07)
     ∷ onFresh (command (0x32 ∷ [])) (one 0x04)
-    ∷ session
-    freshOptions
-    (paged 0 0x00 blankFlash)
-    (command (0x40 ∷ 0x00 ∷ 0x10 ∷ 0x0F ∷ 0xFF ∷ 0x10 ∷ 0x0F ∷ []) ++ sent lastEnd 0xA5)
-    (ack ++ pair 0x06 0x1C)
-    (paged 0 0x00 blankFlash)
-    -- LEN not the command's; an erase address inside a block; VDD too low, then Silent; LEN 00h is 256 bytes
     ∷ onFresh (command (0x00 ∷ 0x00 ∷ [])) (one 0x15)
     ∷ onFresh (command (0x22 ∷ 0x01 ∷ 0x00 ∷ 0x00 ∷ [])) (one 0x05)
-    ∷ ending 4 freshOptions freshOptions blankFlash (0x00 ∷ command (0x9A ∷ 0x00 ∷ 0x0F ∷ []) ++ opening) (one 0x05)
-    ∷ onFresh (command (replicate 256 0x00) ++ command (0x9A ∷ 0x00 ∷ 0x21 ∷ [])) (one 0x15 ++ one 0x04)
+    -- bytes before the start byte are skipped; LEN 00h is 256 bytes
+    ∷ onFresh (0x03 ∷ 0x02 ∷ 0x00 ∷ command (0x00 ∷ [])) ack
+    ∷ onFresh (command (replicate 256 0x00)) (one 0x15)
     ∷ []
 
--- ---- sheets: the verdict, and what a play on that chip comes to, by the meaning and by the clean run ----
-
-pub record Play : Type 0 where
-  pub chip : Chip
-  pub options : Options
-  pub memory : Memory
-  pub sheet : List ℕ
-  pub verdict : Number
-  pub status : Number
-  pub steps : ℕ
-  pub frames : ℕ
-  pub pieces : ℕ
-  pub sums : List ℕ
-  pub memoryAfter : Memory
-
-abbrev sameNumber : Number → Number → Bool
-sameNumber a b = eqb (a .letter) (b .letter) && eqb (a .number) (b .number)
-
-abbrev reports : Report → Play → Bool
-reports r t =
-    sameNumber (statusNumber (r .status)) (t .status)
-    && eqb (r .steps) (t .steps)
-    && eqb (r .frames) (t .frames)
-    && eqb (r .pieces) (t .pieces)
-
-abbrev noSums : List ℕ
-noSums = replicate 4 0
-
-abbrev meant : Ended → Play → Bool
-meant e t =
-    reports (e .report) t && same (e .sums) (t .sums) && sameOptions (e .options) (t .options)
-    && sameMemory (e .memory) (t .memoryAfter)
-
-abbrev ranTo : Joined → Play → Bool
-ranTo j t =
-    reports
-    (record {
-      status = j .player .status;
-      steps = j .player .step;
-      frames = j .player .frames;
-      pieces = j .player .pieces;
-    })
-    t
-    && same (j .sums) (t .sums)
-    && sameOptions (j .state .options) (t .options)
-    && sameMemory (j .state .memory) (t .memoryAfter)
-    && waits (t .chip) (j .state)
-
-abbrev waiting : Chip → Options → Memory → State
-waiting chip o m = feed chip (powered o m) opening .state
-
-unfoldable pub plays : Play → Bool
-plays t =
-    let said = verdictNumber (verdict (t .chip) (t .sheet) 4) in
-    let e = meaning (t .chip) (t .sheet) (t .options) (t .memory) noSums in
-    let start = joinedAtStart (waiting (t .chip) (t .options) (t .memory)) (replicate 260 0) (replicate 16 0) noSums in
-    let ran = run clean (t .chip) (t .sheet) start in
-    let both = meant e t && ran .complete && ranTo (ran .reached) t in
-    sameNumber said (t .verdict) && cond (eqb (t .verdict .letter) 0) both true
-
-unfoldable pub allPlay : List Play → Bool
-allPlay [] = true
-allPlay (t ∷ ts) = plays t && allPlay ts
-
--- an entry: kind, SAD, EAD, zero byte, offset; here in data flash, by the middle bytes of both addresses
-abbrev entry : ℕ → ℕ → ℕ → ℕ → List ℕ
-entry kind from to offset =
-    kind ∷ 0x00 ∷ from ∷ 0x0F ∷ 0xFF ∷ to ∷ 0x0F ∷ 0x00 ∷ (wordBytes offset ++ (0x00 ∷ 0x00 ∷ []))
-
-abbrev accepted : Number
-accepted = record { letter = 0; number = 0 }
+-- ---- sheets ----
 
 abbrev refusedAs : ℕ → List ℕ → Play
 refusedAs n s =
@@ -405,8 +218,8 @@ refusedAs n s =
       options = freshOptions;
       memory = blankFlash;
       sheet = s;
-      verdict = record { letter = 0x4A; number = n };
-      status = accepted;
+      verdict = J n;
+      status = plain 0;
       steps = 0;
       frames = 0;
       pieces = 0;
@@ -421,8 +234,8 @@ playing o m s status steps frames pieces sums after =
       options = o;
       memory = m;
       sheet = s;
-      verdict = accepted;
-      status = record { letter = 0; number = status };
+      verdict = plain 0;
+      status = plain status;
       steps = steps;
       frames = frames;
       pieces = pieces;
@@ -430,9 +243,24 @@ playing o m s status steps frames pieces sums after =
       memoryAfter = after;
     }
 
--- a write of data blocks 0 and 1
+-- one step over data blocks from 0 on: erase, write, verify or sum, of two, three and four blocks
 abbrev writeTwo : List ℕ
 writeTwo = 0x01 ∷ 0x00 ∷ (entry 2 0x10 0x11 14 ++ filled 0xA5 ++ filled 0x5A)
+
+abbrev writeThree : List ℕ
+writeThree = 0x01 ∷ 0x00 ∷ (entry 2 0x10 0x12 14 ++ filled 0xA5 ++ filled 0x5A ++ filled 0x11)
+
+abbrev writeFour : List ℕ
+writeFour = 0x01 ∷ 0x00 ∷ (entry 2 0x10 0x13 14 ++ filled 0xA5 ++ filled 0x5A ++ filled 0x11 ++ filled 0x22)
+
+abbrev verifyThree : List ℕ
+verifyThree = 0x01 ∷ 0x00 ∷ (entry 3 0x10 0x12 14 ++ filled 0xFF ++ filled 0xFF ++ filled 0xFF)
+
+abbrev eraseThree : List ℕ
+eraseThree = 0x01 ∷ 0x00 ∷ entry 1 0x10 0x12 14
+
+abbrev sumOne : List ℕ
+sumOne = 0x01 ∷ 0x00 ∷ entry 4 0x10 0x10 14
 
 unfoldable pub sheets : List Play
 sheets =
@@ -462,29 +290,32 @@ sheets =
     0
     noSums
     (paged 0 0xA5 (paged 1 0x00 blankFlash))
-    -- a write of three pages whose last is not blank: 1 piece; a protected write
+    -- three pages of which the last is not blank: 1 piece; four of which the second is not, and two frames are not sent; a protected write
     ∷ playing
     freshOptions
     (paged 2 0x00 blankFlash)
-    (0x01 ∷ 0x00 ∷ (entry 2 0x10 0x12 14 ++ filled 0xA5 ++ filled 0x5A ++ filled 0x11))
+    writeThree
     0x1C
     0
     4
     1
     noSums
     (paged 0 0xA5 (paged 1 0x5A (paged 2 0x00 blankFlash)))
-    ∷ playing noWrite blankFlash writeTwo 0x10 0 3 0 noSums blankFlash
-    -- a Verify difference; a sum before a protected erase
     ∷ playing
     freshOptions
-    blankFlash
-    (0x01 ∷ 0x00 ∷ (entry 3 0x10 0x10 14 ++ filled 0xA5))
-    0x0F
+    (paged 1 0x00 blankFlash)
+    writeFour
+    0x1C
     0
-    2
-    0
+    4
+    1
     noSums
-    blankFlash
+    (paged 0 0xA5 (paged 1 0x00 blankFlash))
+    ∷ playing noWrite blankFlash writeTwo 0x10 0 3 0 noSums blankFlash
+    -- three blocks erased; a Verify without a difference, and with one; a sum before a protected erase
+    ∷ playing freshOptions (paged 1 0x00 blankFlash) eraseThree 0x06 1 3 0 noSums blankFlash
+    ∷ playing freshOptions blankFlash verifyThree 0x06 1 4 0 noSums blankFlash
+    ∷ playing freshOptions (paged 1 0x00 blankFlash) verifyThree 0x0F 0 4 0 noSums (paged 1 0x00 blankFlash)
     ∷ playing
     noErase
     blankFlash
@@ -495,10 +326,11 @@ sheets =
     0
     (0x0100 ∷ 0 ∷ 0 ∷ 0 ∷ [])
     blankFlash
-    -- the refusals; with two faults the first is named
+    -- the refusals, J2 at 64 and 65; with two faults the first is named
     ∷ refusedAs 2 (0x41 ∷ 0x00 ∷ [])
-    ∷ refusedAs 3 (0x01 ∷ 0x00 ∷ [])
+    ∷ refusedAs 3 (0x40 ∷ 0x00 ∷ [])
     ∷ refusedAs 4 (0x01 ∷ 0x00 ∷ entry 5 0x10 0x0F 99)
+    ∷ refusedAs 4 (0x01 ∷ 0x00 ∷ entry 0 0x10 0x10 14)
     ∷ refusedAs 5
     (0x01 ∷ 0x00 ∷ 0x01 ∷ 0x00 ∷ 0x10 ∷ 0x0F ∷ 0xFE ∷ 0x10 ∷ 0x0F ∷ 0x01 ∷ 0x00 ∷ 0x00 ∷ 0x00 ∷ 0x00 ∷ [])
     ∷ refusedAs 6 (0x01 ∷ 0x00 ∷ entry 1 0x11 0x10 99)
@@ -508,4 +340,96 @@ sheets =
     ∷ refusedAs 10
     (0x05 ∷ 0x00
     ∷ (entry 1 0x10 0x10 62 ++ entry 1 0x10 0x10 62 ++ entry 1 0x10 0x10 62 ++ entry 1 0x10 0x10 62 ++ entry 1 0x10 0x10 62))
+    ∷ []
+
+-- ---- single calls ----
+
+-- code flash, data flash, reply buffer; what a byte call answers, and what a power-on does
+abbrev lending : ℕ → ℕ → ℕ → Number → Number → Lending
+lending code dat reply byte on =
+    record { chip = small; code = code; «data» = dat; reply = reply; byteCall = byte; powerOn = on }
+
+unfoldable pub lengths : List Lending
+lengths =
+    lending 32768 2048 16 (plain 0) (plain 0)
+    ∷ lending 32767 2048 16 (D 1) (D 1)
+    ∷ lending 32769 2047 15 (D 1) (D 1)
+    ∷ lending 32768 2047 16 (D 2) (D 2)
+    ∷ lending 32768 2049 15 (D 2) (D 2)
+    ∷ lending 32768 2048 15 (D 3) (plain 0)
+    ∷ []
+
+-- a player call: sheet, player, reply; frame buffer of so many bytes, room for four sums
+abbrev calling : List ℕ → Player → List ℕ → ℕ → Number → Number → ℕ → ℕ → ℕ → Calling
+calling s p reply room call status steps frames pieces =
+    record {
+      sheet = s;
+      player = p;
+      reply = reply;
+      room = room;
+      sums = 4;
+      call = call;
+      status = status;
+      steps = steps;
+      frames = frames;
+      pieces = pieces;
+    }
+
+-- L1 at the second of three blocks: pieces 1
+abbrev unheard : List ℕ → Calling
+unheard reply = calling eraseThree (player Erased 0 1 2 0 well) reply 260 (plain 0) (L 1) 0 2 1
+
+-- and to a sum
+abbrev unsummed : List ℕ → Calling
+unsummed reply = calling sumOne (player Summed 0 0 1 0 well) reply 260 (plain 0) (L 1) 0 1 0
+
+unfoldable pub playerCalls : List Calling
+playerCalls =
+    -- P1 at 259, none at 260; the first call reads no reply; J before P1
+    calling eraseThree newPlayer [] 259 (P 1) (plain 0x06) 0 0 0
+    ∷ calling eraseThree newPlayer [] 260 (plain 8) (plain 0x06) 0 1 0
+    ∷ calling eraseThree newPlayer (0xFF ∷ []) 260 (plain 8) (plain 0x06) 0 1 0
+    ∷ calling (0x00 ∷ []) newPlayer [] 259 (J 1) (plain 0x06) 0 0 0
+    -- P2: the step, the block or the page is not there, or the step awaits another thing; P1 before P2
+    ∷ calling eraseThree (player Erased 1 0 1 0 well) ack 260 (P 2) (plain 0x06) 1 1 0
+    ∷ calling eraseThree (player Erased 1 0 1 0 well) ack 259 (P 1) (plain 0x06) 1 1 0
+    ∷ calling eraseThree (player Erased 0 3 1 0 well) ack 260 (P 2) (plain 0x06) 0 1 0
+    ∷ calling eraseThree (player Opened 0 0 1 0 well) ack 260 (P 2) (plain 0x06) 0 1 0
+    ∷ calling eraseThree (player Summed 0 0 1 0 well) ack 260 (P 2) (plain 0x06) 0 1 0
+    ∷ calling writeThree (player Page 0 3 4 0 well) [] 260 (P 2) (plain 0x06) 0 4 0
+    ∷ calling writeThree (player Paged 0 3 4 0 well) [] 260 (P 2) (plain 0x06) 0 4 0
+    -- finished or stopped: nothing is sent, and all stands; P1 still
+    ∷ calling eraseThree (player Over 0 1 2 1 (Byte 0x10)) ack 260 (plain 0) (plain 0x10) 0 2 1
+    ∷ calling eraseThree (player Over 0 1 2 1 (Byte 0x10)) ack 259 (P 1) (plain 0x10) 0 2 1
+    -- an erase: on, stopped in the middle by a reply, finished
+    ∷ calling eraseThree (player Erased 0 1 2 0 well) ack 260 (plain 8) (plain 0x06) 0 3 0
+    ∷ calling eraseThree (player Erased 0 1 2 0 well) (one 0x10) 260 (plain 0) (plain 0x10) 0 2 1
+    ∷ calling eraseThree (player Erased 0 2 3 0 well) ack 260 (plain 0) (plain 0x06) 1 3 0
+    -- L1: no reply, one cut short, wrong start, LEN, SUM, end, one byte too many
+    ∷ unheard []
+    ∷ unheard (take 4 ack)
+    ∷ unheard (0x01 ∷ 0x01 ∷ 0x06 ∷ 0xF9 ∷ 0x03 ∷ [])
+    ∷ unheard (0x02 ∷ 0x02 ∷ 0x06 ∷ 0xF8 ∷ 0x03 ∷ [])
+    ∷ unheard (0x02 ∷ 0x01 ∷ 0x06 ∷ 0xFA ∷ 0x03 ∷ [])
+    ∷ unheard (0x02 ∷ 0x01 ∷ 0x06 ∷ 0xF9 ∷ 0x17 ∷ [])
+    ∷ unheard (ack ++ (0x00 ∷ []))
+    -- a write: opened, refused, its first page answered; told of the page before, in the middle and at the end; finished; L1
+    ∷ calling writeThree (player Opened 0 0 1 0 well) ack 260 (plain 260) (plain 0x06) 0 2 0
+    ∷ calling writeThree (player Opened 0 0 1 0 well) (one 0x05) 260 (plain 0) (plain 0x05) 0 1 0
+    ∷ calling writeThree (player Paged 0 0 2 0 well) (pair 0x06 0x06) 260 (plain 260) (plain 0x06) 0 3 0
+    ∷ calling writeThree (player Paged 0 1 3 0 well) (pair 0x06 0x1C) 260 (plain 0) (plain 0x1C) 0 3 0
+    ∷ calling writeThree (player Paged 0 2 4 0 well) (pair 0x06 0x1C) 260 (plain 0) (plain 0x1C) 0 4 1
+    ∷ calling writeThree (player Paged 0 2 4 0 well) (pair 0x15 0x1C) 260 (plain 0) (plain 0x15) 0 4 1
+    ∷ calling writeThree (player Paged 0 2 4 0 well) (pair 0x06 0x06) 260 (plain 0) (plain 0x06) 1 4 0
+    ∷ calling writeThree (player Paged 0 0 2 0 well) [] 260 (plain 0) (L 1) 0 2 0
+    ∷ calling writeThree (player Paged 0 2 4 0 well) ack 260 (plain 0) (L 1) 0 4 1
+    -- a verify has no pieces
+    ∷ calling verifyThree (player Paged 0 2 4 0 well) (pair 0x06 0x0F) 260 (plain 0) (plain 0x0F) 0 4 0
+    -- a sum: its two frames, refused, and L1
+    ∷ calling sumOne (player Summed 0 0 1 0 well) (ack ++ pair 0x00 0x01) 260 (plain 0) (plain 0x06) 1 1 0
+    ∷ calling sumOne (player Summed 0 0 1 0 well) (one 0x05) 260 (plain 0) (plain 0x05) 0 1 0
+    ∷ unsummed ack
+    ∷ unsummed (ack ++ ack)
+    ∷ unsummed (ack ++ pair 0x00 0x01 ++ (0x00 ∷ []))
+    ∷ unsummed (ack ++ (0x02 ∷ 0x02 ∷ 0x00 ∷ 0x01 ∷ 0xFC ∷ 0x03 ∷ []))
     ∷ []

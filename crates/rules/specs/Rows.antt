@@ -325,7 +325,11 @@ twoPages code = command (code ∷ 0x00 ∷ 0x10 ∷ 0x0F ∷ 0xFF ∷ 0x11 ∷ 0
 abbrev pub paged : ℕ → ℕ → Memory → Memory
 paged k b m = putPage m Data k (filled b)
 
--- an entry of a sheet: kind, SAD, EAD, zero byte, offset; here in data flash, by the middle bytes of both addresses
+-- an entry of a sheet: kind, SAD, EAD, zero byte, offset; in the flash with that high byte, by the middle bytes of both addresses
+abbrev pub entryIn : ℕ → ℕ → ℕ → ℕ → ℕ → List ℕ
+entryIn high kind from upto offset =
+    kind ∷ 0x00 ∷ from ∷ high ∷ 0xFF ∷ upto ∷ high ∷ 0x00 ∷ (wordBytes offset ++ (0x00 ∷ 0x00 ∷ []))
+
+-- in data flash
 abbrev pub entry : ℕ → ℕ → ℕ → ℕ → List ℕ
-entry kind from upto offset =
-    kind ∷ 0x00 ∷ from ∷ 0x0F ∷ 0xFF ∷ upto ∷ 0x0F ∷ 0x00 ∷ (wordBytes offset ++ (0x00 ∷ 0x00 ∷ []))
+entry kind from upto offset = entryIn 0x0F kind from upto offset

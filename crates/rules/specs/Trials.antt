@@ -12,7 +12,7 @@ use Rattle.rules.specs.Chip.{Memory, small}
 use Rattle.rules.specs.Options.{freshOptions}
 use Rattle.rules.specs.Frame.{dataStart, lastEnd, moreEnd, frame}
 use Rattle.rules.specs.Player.{player, newPlayer, well}
-use Rattle.rules.specs.Rows.{plain, D, J, P, L, Exchange, to, Session, Play, noSums, mode, speed, Lending, Calling, blankFlash, ack, session, onFresh, optioned, ending, flags, noBoot, noErase, noWrite, askIdent, command, filled, page, badSum, one, pair, onePage, twoPages, paged, entry}
+use Rattle.rules.specs.Rows.{plain, D, J, P, L, Exchange, to, Session, Play, noSums, mode, speed, Lending, Calling, blankFlash, ack, session, onFresh, optioned, ending, flags, noBoot, noErase, noWrite, askIdent, command, filled, page, badSum, one, pair, onePage, twoPages, paged, entryIn, entry}
 
 -- ---- sessions ----
 
@@ -187,8 +187,8 @@ further =
     ∷ to (command (0xAC ∷ 0x00 ∷ 0x00 ∷ 0x00 ∷ 0x00 ∷ [])) (one 0x10)
     ∷ [])
     ∷ optioned
-    freshOptions
-    (record { sf1 = 0xFF; sf2 = 0xFF; sws = 0xFFAA; swe = 0x7F55 })
+    noBoot
+    (record { sf1 = 0xFD; sf2 = 0xFF; sws = 0xFFAA; swe = 0x7F55 })
     (to (command (0xAC ∷ 0xAA ∷ 0x81 ∷ 0x55 ∷ 0x01 ∷ [])) ack
     ∷ to (command (0xAD ∷ [])) (ack ++ frame dataStart lastEnd (0xAA ∷ 0x81 ∷ 0x55 ∷ 0x01 ∷ []))
     ∷ [])
@@ -198,6 +198,16 @@ further =
     ∷ unrated 4 0x21
     ∷ unrated 0 0x0F
     ∷ unrated 0 0x38
+    -- a 9Ah with a wrong SUM or end byte, and a 9Ch with a wrong SUM, leave the phase; one with another LEN silences
+    ∷ ending 1
+    freshOptions
+    freshOptions
+    (to mode []
+    ∷ to (0x01 ∷ 0x03 ∷ 0x9A ∷ 0x00 ∷ 0x21 ∷ 0x43 ∷ 0x03 ∷ []) (one 0x07)
+    ∷ to (0x01 ∷ 0x03 ∷ 0x9A ∷ 0x00 ∷ 0x21 ∷ 0x42 ∷ 0x17 ∷ []) (one 0x15)
+    ∷ [])
+    ∷ ending 2 askIdent askIdent (opening ++ (to (0x01 ∷ 0x01 ∷ 0x9C ∷ 0x00 ∷ 0x03 ∷ []) (one 0x07) ∷ []))
+    ∷ ending 4 freshOptions freshOptions (to mode [] ∷ to (command (0x9A ∷ 0x00 ∷ [])) (one 0x15) ∷ to speed [] ∷ [])
     -- the status bytes not met above: end byte, SUM and code of a command; LEN not the command's; an erase address inside a block
     ∷ onFresh (0x01 ∷ 0x01 ∷ 0x00 ∷ 0xFF ∷ 0x17 ∷ []) (one 0x15)
     ∷ onFresh (0x01 ∷ 0x01 ∷ 0x00 ∷ 0x00 ∷ 0x03 ∷ []) (one 0x07)
@@ -259,8 +269,21 @@ verifyThree = 0x01 ∷ 0x00 ∷ (entry 3 0x10 0x12 14 ++ filled 0xFF ++ filled 0
 abbrev eraseThree : List ℕ
 eraseThree = 0x01 ∷ 0x00 ∷ entry 1 0x10 0x12 14
 
+-- the last code block, its eight pages: written, and compared with blank ones
+abbrev codePages : List ℕ
+codePages = replicate 256 0xA5 ++ replicate 1536 0x5A ++ replicate 256 0x11
+
+abbrev writeCode : List ℕ
+writeCode = 0x01 ∷ 0x00 ∷ (entryIn 0x00 2 0x78 0x7F 14 ++ codePages)
+
+abbrev verifyCode : List ℕ
+verifyCode = 0x01 ∷ 0x00 ∷ (entryIn 0x00 3 0x78 0x7F 14 ++ replicate 2048 0xFF)
+
 abbrev sumOne : List ℕ
 sumOne = 0x01 ∷ 0x00 ∷ entry 4 0x10 0x10 14
+
+abbrev writtenCode : Memory
+writtenCode = record { code = replicate 30720 0xFF ++ codePages; «data» = blankFlash .«data» }
 
 unfoldable pub sheets : List Play
 sheets =
@@ -312,6 +335,9 @@ sheets =
     noSums
     (paged 0 0xA5 (paged 1 0x00 blankFlash))
     ∷ playing noWrite blankFlash writeTwo 0x10 0 3 0 noSums blankFlash
+    -- a code block has eight pages
+    ∷ playing freshOptions blankFlash writeCode 0x06 1 9 0 noSums writtenCode
+    ∷ playing freshOptions blankFlash verifyCode 0x06 1 9 0 noSums blankFlash
     -- three blocks erased; a Verify without a difference, and with one; a sum before a protected erase
     ∷ playing freshOptions (paged 1 0x00 blankFlash) eraseThree 0x06 1 3 0 noSums blankFlash
     ∷ playing freshOptions blankFlash verifyThree 0x06 1 4 0 noSums blankFlash
@@ -401,7 +427,8 @@ playerCalls =
     -- finished or stopped: nothing is sent, and all stands; P1 still
     ∷ calling eraseThree (player Over 0 1 2 1 (Byte 0x10)) ack 260 (plain 0) (plain 0x10) 0 2 1
     ∷ calling eraseThree (player Over 0 1 2 1 (Byte 0x10)) ack 259 (P 1) (plain 0x10) 0 2 1
-    -- an erase: on, stopped in the middle by a reply, finished
+    -- an erase: on (also with pieces in the record), stopped in the middle by a reply, finished
+    ∷ calling eraseThree (player Erased 0 1 2 7 well) ack 260 (plain 8) (plain 0x06) 0 3 0
     ∷ calling eraseThree (player Erased 0 1 2 0 well) ack 260 (plain 8) (plain 0x06) 0 3 0
     ∷ calling eraseThree (player Erased 0 1 2 0 well) (one 0x10) 260 (plain 0) (plain 0x10) 0 2 1
     ∷ calling eraseThree (player Erased 0 2 3 0 well) ack 260 (plain 0) (plain 0x06) 1 3 0
@@ -425,7 +452,8 @@ playerCalls =
     ∷ calling writeThree (player Paged 0 2 4 0 well) ack 260 (plain 0) (L 1) 0 4 1
     -- a verify has no pieces
     ∷ calling verifyThree (player Paged 0 2 4 0 well) (pair 0x06 0x0F) 260 (plain 0) (plain 0x0F) 0 4 0
-    -- a sum: its two frames, refused, and L1
+    -- a sum: its two frames (also with pieces in the record), refused, and L1
+    ∷ calling sumOne (player Summed 0 0 1 7 well) (ack ++ pair 0x00 0x01) 260 (plain 0) (plain 0x06) 1 1 0
     ∷ calling sumOne (player Summed 0 0 1 0 well) (ack ++ pair 0x00 0x01) 260 (plain 0) (plain 0x06) 1 1 0
     ∷ calling sumOne (player Summed 0 0 1 0 well) (one 0x05) 260 (plain 0) (plain 0x05) 0 1 0
     ∷ unsummed ack

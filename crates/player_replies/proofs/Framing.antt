@@ -12,7 +12,7 @@ use Rattle.rules.specs.declared.Status.the-variants.{Byte, L1}
 use Rattle.rules.specs.Chip.{byteAt, total, same}
 use Rattle.rules.specs.Player.{well, framed, commandReply, sumReply, dataReply}
 use Rattle.rules.proofs.Choices.{and-false}
-use Rattle.octets.proofs.Lists.{same-equal}
+use Rattle.rules.proofs.Bytes.{same-equal}
 use Rattle.frame_build.proofs.Sum.{total-frame, sum-same}
 
 -- ---- the tests, one after the other ----

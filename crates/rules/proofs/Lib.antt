@@ -1,5 +1,6 @@
 pub mod Bytes
 pub mod Choices
 pub mod First
+pub mod Rows
 pub mod Sheet
 pub mod Trials

@@ -1,10 +1,11 @@
--- The tables of trials hold, by computing them. Assumes nothing.
+-- The tables of trials hold, by computing them; and so every column of every row is an equation. Assumes nothing.
 use mathlib.Core.Path.{_≡_, refl}
 use mathlib.Core.Bool.{true}
 use Rattle.rules.specs.Compute.{everything}
 use Rattle.rules.specs.Rows.{comesLast, exchanged, holds, allHold, plays, allPlay, lends, allLend, calls, allCall}
 use Rattle.rules.specs.Starred.{starred}
 use Rattle.rules.specs.Trials.{further, sheets, lengths, playerCalls}
+use Rattle.rules.proofs.Rows.{All, Held, all-held, Played, all-played, Lent, all-lent, Answers, all-answer}
 
 -- THE STARRED TRIALS, 1 to 12
 pub starred-trials : allHold starred ≡ true
@@ -29,3 +30,20 @@ length-trials = refl
 pub call-trials : allCall playerCalls ≡ true
 unfolding everything calls allCall playerCalls
 call-trials = refl
+
+-- ---- what the rows say ----
+
+pub starred-say : All Held starred
+starred-say = all-held starred starred-trials
+
+pub further-say : All Held further
+further-say = all-held further further-sessions
+
+pub sheets-say : All Played sheets
+sheets-say = all-played sheets sheet-trials
+
+pub lengths-say : All Lent lengths
+lengths-say = all-lent lengths length-trials
+
+pub calls-say : All Answers playerCalls
+calls-say = all-answer playerCalls call-trials

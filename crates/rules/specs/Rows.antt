@@ -44,14 +44,14 @@ P n = record { letter = 0x50; number = n }
 abbrev pub L : ℕ → Number
 L n = record { letter = 0x4C; number = n }
 
-abbrev sameOptions : Options → Options → Bool
+abbrev pub sameOptions : Options → Options → Bool
 sameOptions a b =
     eqb (a .sf1) (b .sf1) && eqb (a .sf2) (b .sf2) && eqb (a .sws) (b .sws) && eqb (a .swe) (b .swe)
 
-abbrev sameMemory : Memory → Memory → Bool
+abbrev pub sameMemory : Memory → Memory → Bool
 sameMemory a b = same (a .code) (b .code) && same (a .«data») (b .«data»)
 
-abbrev alike : Bool → Bool → Bool
+abbrev pub alike : Bool → Bool → Bool
 alike true b = b
 alike false b = cond b false true
 
@@ -120,7 +120,7 @@ pub record Play : Type 0 where
   pub memoryAfter : Memory
 
 -- a report of those four
-abbrev reports : Report → Number → ℕ → ℕ → ℕ → Bool
+abbrev pub reports : Report → Number → ℕ → ℕ → ℕ → Bool
 reports r status steps frames pieces =
     sameNumber (statusNumber (r .status)) status
     && eqb (r .steps) steps
@@ -130,14 +130,14 @@ reports r status steps frames pieces =
 abbrev pub noSums : List ℕ
 noSums = replicate 4 0
 
-abbrev meant : Ended → Play → Bool
+abbrev pub meant : Ended → Play → Bool
 meant e t =
     reports (e .report) (t .status) (t .steps) (t .frames) (t .pieces)
     && same (e .sums) (t .sums)
     && sameOptions (e .options) (t .options)
     && sameMemory (e .memory) (t .memoryAfter)
 
-abbrev ranTo : Joined → Play → Bool
+abbrev pub ranTo : Joined → Play → Bool
 ranTo j t =
     let p = j .player in
     reports
@@ -158,7 +158,7 @@ mode = 0x3A ∷ []
 abbrev pub speed : List ℕ
 speed = 0x01 ∷ 0x03 ∷ 0x9A ∷ 0x00 ∷ 0x21 ∷ 0x42 ∷ 0x03 ∷ []
 
-abbrev opened : Chip → Options → Memory → State
+abbrev pub opened : Chip → Options → Memory → State
 opened chip o m = feed chip (powered o m) (mode ++ speed) .state
 
 unfoldable pub plays : Play → Bool
@@ -185,7 +185,7 @@ pub record Lending : Type 0 where
   pub byteCall : Number
   pub powerOn : Number
 
-abbrev lentMemory : Lending → Memory
+abbrev pub lentMemory : Lending → Memory
 lentMemory t = record { code = replicate (t .code) 0xFF; «data» = replicate (t .«data») 0xFF }
 
 unfoldable pub lends : Lending → Bool

@@ -29,7 +29,7 @@ void exit(int);
 
 typedef size engine_fn(const u8 *, size, size, size, u8 *, u8 *, size, u8 *, size, u8 *, size);
 typedef size player_fn(const u8 *, size, const u8 *, size, size, size, size, u8 *, size, u16 *, size);
-typedef size play_fn(const u8 *, size, u8 *, u8 *, size, u8 *, size, u8 *, size, u8 *, size, u16 *, size);
+typedef size play_fn(const u8 *, size, u8 *, u8 *, size, u8 *, size, u8 *, size, u8 *, size, u16 *, size, size *);
 
 engine_fn rattle_engine, rattle_called, rattle_by_value, plain_engine, plain_called;
 player_fn rattle_player, plain_player;
@@ -42,6 +42,7 @@ enum { CODE_SIZE = 32768, DATA_SIZE = 2048, DATA_START = 0xF1000, PAGE = 256 };
 struct lent {
     u8 held[260], code[CODE_SIZE], data[DATA_SIZE], reply[16], frame[260];
     u16 sums[64];
+    size each[64];
     size answer;
 };
 
@@ -55,6 +56,7 @@ static void blank(struct lent *m)
     memset(m, 0, sizeof *m);
     memset(m->code, 0xFF, CODE_SIZE);
     memset(m->data, 0xFF, DATA_SIZE);
+    memset(m->each, 0xFF, sizeof m->each);
 }
 
 // One call of either side. A call goes through a pointer that the compiler knows nothing about.
@@ -84,7 +86,7 @@ __attribute__((noinline)) static void call_player(struct lent *m, struct run r)
 __attribute__((noinline)) static void call_play(struct lent *m, struct run r)
 {
     m->answer = play_called(sheet, sheet_n, m->held, m->code, CODE_SIZE - (r.less == 1), m->data, DATA_SIZE - (r.less == 2), m->reply,
-                             sizeof m->reply - (r.less == 3), m->frame, sizeof m->frame - (r.less == 4), m->sums, 64);
+                             sizeof m->reply - (r.less == 3), m->frame, sizeof m->frame - (r.less == 4), m->sums, 64, m->each);
 }
 
 enum kind { ENGINE, CALLED, BY_VALUE, PLAYER, PLAY_ALL };
@@ -138,6 +140,8 @@ static void both(const char *what, enum kind kind, struct run r)
         differs = "frame buffer";
     else if (memcmp(ours.sums, plain.sums, sizeof ours.sums) != 0)
         differs = "sums";
+    else if (memcmp(ours.each, plain.each, sizeof ours.each) != 0)
+        differs = "frames of each step";
     if (differs) {
         printf("%s: the two sides differ in: %s\n", what, differs);
         exit(1);

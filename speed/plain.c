@@ -785,11 +785,11 @@ size plain_player(const u8 *sheet, size sheet_n, const u8 *replies, size replies
 
 #ifdef PLAY
 // A new player plays the sheet to a fresh chip in phase Command. A refusal is 1 to 10 for J1 to J10, 11 for P1, 13 to 15 for D1 to D3.
-size plain_play(const u8 *sheet, size sheet_n, u8 *held, u8 *code, size code_n, u8 *data, size data_n, u8 *reply, size reply_n, u8 *frame, size frame_n, u16 *sums, size sums_n)
+size plain_play(const u8 *sheet, size sheet_n, u8 *held, u8 *code, size code_n, u8 *data, size data_n, u8 *reply, size reply_n, u8 *frame, size frame_n, u16 *sums, size sums_n, size *each)
 {
     struct device d = waiting;
     struct player p = new_player;
-    size heard = 0, n;
+    size heard = 0, before = 0, n;
     int refusal = judge(sheet, sheet_n, sums_n);
     if (!refusal && frame_n < 260)
         refusal = 11;
@@ -803,6 +803,7 @@ size plain_play(const u8 *sheet, size sheet_n, u8 *held, u8 *code, size code_n, 
         return mixed(0, named(refusal));
     absorb(sheet, &p, reply, 0, sums);
     while ((n = emit(sheet, &p, frame)) != 0) {
+        size step = p.step;
         heard = 0;
         for (size i = 0; i < n; i++) {
             int answered = take(&d, frame[i], held, code, code_n, data, data_n, reply + heard, reply_n - heard);
@@ -811,6 +812,10 @@ size plain_play(const u8 *sheet, size sheet_n, u8 *held, u8 *code, size code_n, 
             heard += answered;
         }
         absorb(sheet, &p, reply, heard, sums);
+        if (p.step != step || p.stage == OVER) {
+            each[step] = p.frames - before;
+            before = p.frames;
+        }
     }
     return mixed(reported(0, report_of(&p)), heard);
 }

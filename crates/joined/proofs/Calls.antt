@@ -17,7 +17,7 @@ use Rattle.rules.specs.declared.Verdict.the-variants as v
 use Rattle.rules.specs.StandIn.{lentVerdict}
 use Rattle.rules.specs.Sheet.{verdict, stepAt}
 use Rattle.rules.specs.Player.{newPlayer, lost, playerVerdict, frameRoom}
-use Rattle.rules.specs.Run.{clean, Joined, run, stepRun, mostFrames, waits}
+use Rattle.rules.specs.Run.{clean, Joined, stepRun, mostFrames, waits}
 use Rattle.rules.proofs.Sheet as verdicts
 use Rattle.rules.proofs.Choices.{both}
 use Rattle.player_laws.proofs.PlaceInSheet.{ready-stands, allowed-call}
@@ -26,7 +26,7 @@ use Rattle.standin_state.proofs.Lending.{lent-fits}
 use Rattle.joined_laws.specs.Turns.{Sized, Fit}
 use Rattle.joined.specs.declared.Answer.the-variants.{Refused, NotAtStep, Busy, Played}
 use Rattle.joined_checks.specs.Checks.{joinedVerdict, isReady, startsStep}
-use Rattle.joined.specs.Plays.{outcome, lengths, judged, stepPlayed, sheetPlayed}
+use Rattle.joined.specs.Plays.{outcome, sheetOutcome, lengths, judged, allPlayed, stepPlayed, sheetPlayed}
 use Rattle.joined_step.specs.Turn.{Rooms, StepReady}
 use Rattle.joined.specs.Ready.{PlayReady}
 
@@ -36,10 +36,6 @@ module _ (chip : Chip) (s : List ℕ) (j : Joined) where
   pub step-refused : (n : Refusal) → joinedVerdict chip s (j .player) (lengths j) ≡ v.Refused n → stepPlayed chip s j ≡ outcome (Refused n) j
   unfolding stepPlayed judged
   step-refused n e = rw e
-
-  pub sheet-refused : (n : Refusal) → joinedVerdict chip s newPlayer (lengths j) ≡ v.Refused n → sheetPlayed chip s j ≡ outcome (Refused n) j
-  unfolding sheetPlayed judged
-  sheet-refused n e = rw e
 
   module _ (ok : joinedVerdict chip s (j .player) (lengths j) ≡ Accepted) where
     pub step-not-begun : startsStep chip s (j .player) ≡ false → stepPlayed chip s j ≡ outcome NotAtStep j
@@ -55,14 +51,20 @@ module _ (chip : Chip) (s : List ℕ) (j : Joined) where
       unfolding stepPlayed judged
       step-played e = rw (ok, b, e)
 
-  module _ (ok : joinedVerdict chip s newPlayer (lengths j) ≡ Accepted) where
-    pub sheet-busy : waits chip (j .state) ≡ false → sheetPlayed chip s j ≡ outcome Busy j
+  module _ (each : List ℕ) where
+    pub sheet-refused : (n : Refusal) → joinedVerdict chip s newPlayer (lengths j) ≡ v.Refused n
+        → sheetPlayed chip s j each ≡ sheetOutcome (Refused n) j each
     unfolding sheetPlayed judged
-    sheet-busy e = rw (ok, e)
+    sheet-refused n e = rw e
 
-    pub sheet-played : waits chip (j .state) ≡ true → sheetPlayed chip s j ≡ outcome Played (run clean chip s j .reached)
-    unfolding sheetPlayed judged
-    sheet-played e = rw (ok, e)
+    module _ (ok : joinedVerdict chip s newPlayer (lengths j) ≡ Accepted) where
+      pub sheet-busy : waits chip (j .state) ≡ false → sheetPlayed chip s j each ≡ sheetOutcome Busy j each
+      unfolding sheetPlayed judged
+      sheet-busy e = rw (ok, e)
+
+      pub sheet-played : waits chip (j .state) ≡ true → sheetPlayed chip s j each ≡ allPlayed chip s j each
+      unfolding sheetPlayed judged
+      sheet-played e = rw (ok, e)
 
 -- ---- what an acceptance says ----
 

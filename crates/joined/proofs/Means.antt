@@ -11,6 +11,7 @@ use Rattle.rules.specs.declared.Verdict.{Verdict}
 use Rattle.rules.specs.declared.Verdict.the-variants.{Accepted}
 use Rattle.rules.specs.declared.Verdict.the-variants as v
 use Rattle.rules.specs.Sheet.{stepAt}
+use Rattle.rules.specs.Meaning.{stepFrames}
 use Rattle.rules.specs.Player.{newPlayer}
 use Rattle.rules.specs.Run.{clean, Joined, Ran, run, stepRun, waits}
 use Rattle.joined_laws.specs.Turns.{Sized, stepLeaves, StepEnds, Means}
@@ -19,7 +20,7 @@ use Rattle.joined_laws.proofs.Steps.{step-ends}
 use Rattle.joined.specs.declared.Answer.{Answer}
 use Rattle.joined.specs.declared.Answer.the-variants.{Refused, NotAtStep, Busy, Played}
 use Rattle.joined_checks.specs.Checks.{joinedVerdict, startsStep}
-use Rattle.joined.specs.Plays.{Outcome, outcome, lengths, judged, stepPlayed, sheetPlayed}
+use Rattle.joined.specs.Plays.{Outcome, outcome, SheetOutcome, sheetOutcome, lengths, judged, stepPlayed, sheetPlayed}
 use Rattle.joined.proofs.Calls.{good, starts, step-played, sheet-played}
 
 -- the number of an answer
@@ -33,14 +34,16 @@ differ : {A : Type 0} (a b : Answer) → (number a ≡ number b → ⊥) → a �
 differ a b n e = absurd (n (ap number e))
 
 -- a sheet that was played
-sheet-was : (x : Verdict) (b : Bool) (j e : Joined) → judged x j (cond b (outcome Played e) (outcome Busy j)) .answer ≡ Played → (x ≡ Accepted) × (b ≡ true)
+sheet-was : (x : Verdict) (b : Bool) (j e : Joined) (each all : List ℕ)
+    → judged x (λ a. sheetOutcome a j each) (cond b (sheetOutcome Played e all) (sheetOutcome Busy j each)) .answer ≡ Played
+    → (x ≡ Accepted) × (b ≡ true)
 unfolding judged
-sheet-was Accepted true j e h = (refl, refl)
-sheet-was Accepted false j e h = differ Busy Played (λ z. omega arith) h
-sheet-was (v.Refused n) b j e h = differ (Refused n) Played (λ z. omega arith) h
+sheet-was Accepted true j e each all h = (refl, refl)
+sheet-was Accepted false j e each all h = differ Busy Played (λ z. omega arith) h
+sheet-was (v.Refused n) b j e each all h = differ (Refused n) Played (λ z. omega arith) h
 
 -- a step that was played
-step-was : (x : Verdict) (a b : Bool) (j e : Joined) → judged x j (cond a (cond b (outcome Played e) (outcome Busy j)) (outcome NotAtStep j)) .answer ≡ Played
+step-was : (x : Verdict) (a b : Bool) (j e : Joined) → judged x (λ y. outcome y j) (cond a (cond b (outcome Played e) (outcome Busy j)) (outcome NotAtStep j)) .answer ≡ Played
     → (x ≡ Accepted) × (a ≡ true) × (b ≡ true)
 unfolding judged
 step-was Accepted true true j e h = (refl, refl, refl)
@@ -49,15 +52,19 @@ step-was Accepted false b j e h = differ NotAtStep Played (λ z. omega arith) h
 step-was (v.Refused n) a b j e h = differ (Refused n) Played (λ z. omega arith) h
 
 module _ (chip : Chip) (sized : Sized chip) (s : List ℕ) (j : Joined) where
-  -- A SHEET PLAYED by a new player: its end is that of the run, and so of the meaning
-  pub sheet-means : j .player ≡ newPlayer → sheetPlayed chip s j .answer ≡ Played
-      → (sheetPlayed chip s j .reached ≡ run clean chip s j .reached) × Means chip s j (run clean chip s j)
+  -- A SHEET PLAYED by a new player: its end is that of the run, and so of the meaning, and the list has the frames of each step reached
+  pub sheet-means : (each : List ℕ) → j .player ≡ newPlayer → sheetPlayed chip s j each .answer ≡ Played
+      → (sheetPlayed chip s j each .reached ≡ run clean chip s j .reached)
+      × Means chip s j (run clean chip s j)
+      × (sheetPlayed chip s j each .each ≡ stepFrames chip s (j .state .options) (j .state .memory) each)
   unfolding sheetPlayed
-  sheet-means new h =
-      let w = sheet-was (joinedVerdict chip s newPlayer (lengths j)) (waits chip (j .state)) j (run clean chip s j .reached) h in
-      let g = good chip s newPlayer j (w .0) in (
-        ap (λ (o : Outcome). o .reached) (sheet-played chip s j (w .0) (w .1)),
+  sheet-means each new h =
+      let w = sheet-was (joinedVerdict chip s newPlayer (lengths j)) (waits chip (j .state)) j (run clean chip s j .reached) each _ h in
+      let g = good chip s newPlayer j (w .0) in
+      let p = sheet-played chip s j each (w .0) (w .1) in (
+        ap (λ (o : SheetOutcome). o .reached) p,
         run-means chip sized s j (ap (λ (p : Player). p .stage) new) (g .rooms .accepted) (w .1) (g .fit),
+        ap (λ (o : SheetOutcome). o .each) p,
       )
 
   -- A STEP PLAYED comes to its meaning: flash, options, frames, sum, and the stand-in is settled

@@ -11,9 +11,9 @@ use standin_state::Core;
 ghost use mathlib.Core.Path.{_≡_};
 ghost use Rattle.joined_laws.specs.Turns.{Sized};
 ghost use Rattle.joined_step.specs.Rigs.{rigged};
-ghost use Rattle.joined.specs.Plays.{outcome, stepPlayed};
+ghost use Rattle.joined.specs.Plays.{outcome, stepPlayed, given, Stands};
 
-// The step at whose beginning the player stands. Where it is refused, all stands.
+// The step at whose beginning the player stands. Where it is not played, all stands, to the byte.
 pub fn play_step(
     chip: Chip,
     sheet: &[u8],
@@ -27,6 +27,7 @@ pub fn play_step(
     sums: &mut [u16],
 ) -> Played
     ensures { λ q. ⌜ (Sized chip → outcome (q .answer) (rigged (q .rig) (now (held .exit)) (now (code .exit)) (now («data» .exit)) (now (reply .exit)) (now (frame .exit)) (now (sums .exit))) ≡ stepPlayed chip (now (sheet .entry)) (rigged (record { player = p; core = c; arrived = 0 }) (now (held .entry)) (now (code .entry)) (now («data» .entry)) (now (reply .entry)) (now (frame .entry)) (now (sums .entry)))) ⌝ }
+    ensures { λ q. ⌜ Stands (q .answer) (given (record { player = p; core = c; arrived = 0 }) (now (held .entry)) (now (code .entry)) (now («data» .entry)) (now (reply .entry)) (now (frame .entry)) (now (sums .entry))) (given (q .rig) (now (held .exit)) (now (code .exit)) (now («data» .exit)) (now (reply .exit)) (now (frame .exit)) (now (sums .exit))) ⌝ }
 {
     let rig = Rig {
         player: p,

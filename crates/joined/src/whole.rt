@@ -13,11 +13,12 @@ use rules::Verdict;
 use sheet::table::count;
 use standin_state::Core;
 ghost use mathlib.Core.Path.{_≡_};
+ghost use Prim.Native.Nat.{_-_};
+ghost use lib.ListN.{set};
 ghost use Rattle.rules.specs.Player.{newPlayer};
-ghost use Rattle.rules.specs.Run.{clean, run};
 ghost use Rattle.joined_laws.specs.Turns.{Sized};
 ghost use Rattle.joined_step.specs.Rigs.{rigged};
-ghost use Rattle.joined.specs.Plays.{isOver, outcome, sheetPlayed};
+ghost use Rattle.joined.specs.Plays.{isOver, sheetOutcome, playedTo, allPlayed, sheetPlayed, given, Stands};
 ghost use Rattle.joined.specs.Ready.{PlayReady};
 
 // The play is over.
@@ -37,7 +38,27 @@ pub fn is_over(p: Player) -> bool
     }
 }
 
-// All steps of an accepted sheet, up to the first that fails.
+// The frames that a count has grown by; 0 where it has not.
+fn grown(before: usize, after: usize) -> usize
+    ensures { λ r. ⌜ r ≡ after - before ⌝ }
+{
+    if after < before {
+        return 0;
+    }
+    after - before
+}
+
+fn put_frames(each: &mut [usize; 64], i: usize, frames: usize)
+    ensures { λ _. ⌜ now (each .exit) ≡ set (now (each .entry)) i frames ⌝ }
+{
+    // asked for its length, the list is known to have 64 entries
+    let all: &[usize] = &*each;
+    if i < all.len() {
+        each[i] = frames;
+    }
+}
+
+// All steps of an accepted sheet, up to the first that fails, and the frames of each.
 fn steps_through(
     chip: Chip,
     sheet: &[u8],
@@ -48,9 +69,10 @@ fn steps_through(
     reply: &mut [u8],
     frame: &mut [u8],
     sums: &mut [u16],
+    each: &mut [usize; 64],
 ) -> Rig
     requires { ⌜ (Sized chip → PlayReady chip (now sheet) (rigged r (now held) (now code) (now «data») (now reply) (now frame) (now sums))) ⌝ }
-    ensures { λ q. ⌜ (Sized chip → rigged q (now (held .exit)) (now (code .exit)) (now («data» .exit)) (now (reply .exit)) (now (frame .exit)) (now (sums .exit)) ≡ run clean chip (now (sheet .entry)) (rigged r (now (held .entry)) (now (code .entry)) (now («data» .entry)) (now (reply .entry)) (now (frame .entry)) (now (sums .entry))) .reached) ⌝ }
+    ensures { λ q. ⌜ (Sized chip → playedTo (rigged q (now (held .exit)) (now (code .exit)) (now («data» .exit)) (now (reply .exit)) (now (frame .exit)) (now (sums .exit))) (now (each .exit)) ≡ allPlayed chip (now (sheet .entry)) (rigged r (now (held .entry)) (now (code .entry)) (now («data» .entry)) (now (reply .entry)) (now (frame .entry)) (now (sums .entry))) (now (each .entry))) ⌝ }
 {
     let new = r.player;
     let core = r.core;
@@ -69,12 +91,14 @@ fn steps_through(
             return rig;
         }
         rig = step_through(chip, sheet, rig, held, code, data, reply, frame, sums);
+        let then = rig.player;
+        put_frames(each, i, grown(now.frames, then.frames));
         i += 1;
     }
     rig
 }
 
-// A new player plays the whole sheet. Where it is refused, all stands.
+// A new player plays the whole sheet, and each step's frames are kept. Where it is not played, all stands, to the byte.
 pub fn play(
     chip: Chip,
     sheet: &[u8],
@@ -85,8 +109,11 @@ pub fn play(
     reply: &mut [u8],
     frame: &mut [u8],
     sums: &mut [u16],
+    each: &mut [usize; 64],
 ) -> Played
-    ensures { λ q. ⌜ (Sized chip → outcome (q .answer) (rigged (q .rig) (now (held .exit)) (now (code .exit)) (now («data» .exit)) (now (reply .exit)) (now (frame .exit)) (now (sums .exit))) ≡ sheetPlayed chip (now (sheet .entry)) (rigged (record { player = newPlayer; core = c; arrived = 0 }) (now (held .entry)) (now (code .entry)) (now («data» .entry)) (now (reply .entry)) (now (frame .entry)) (now (sums .entry)))) ⌝ }
+    ensures { λ q. ⌜ (Sized chip → sheetOutcome (q .answer) (rigged (q .rig) (now (held .exit)) (now (code .exit)) (now («data» .exit)) (now (reply .exit)) (now (frame .exit)) (now (sums .exit))) (now (each .exit)) ≡ sheetPlayed chip (now (sheet .entry)) (rigged (record { player = newPlayer; core = c; arrived = 0 }) (now (held .entry)) (now (code .entry)) (now («data» .entry)) (now (reply .entry)) (now (frame .entry)) (now (sums .entry))) (now (each .entry))) ⌝ }
+    ensures { λ q. ⌜ Stands (q .answer) (given (record { player = newPlayer; core = c; arrived = 0 }) (now (held .entry)) (now (code .entry)) (now («data» .entry)) (now (reply .entry)) (now (frame .entry)) (now (sums .entry))) (given (q .rig) (now (held .exit)) (now (code .exit)) (now («data» .exit)) (now (reply .exit)) (now (frame .exit)) (now (sums .exit))) ⌝ }
+    ensures { λ q. ⌜ Stands (q .answer) (now (each .entry)) (now (each .exit)) ⌝ }
 {
     let p = new_player();
     let rig = Rig {
@@ -113,7 +140,7 @@ pub fn play(
             answer: Answer::Busy,
         };
     }
-    let end = steps_through(chip, sheet, rig, held, code, data, reply, frame, sums);
+    let end = steps_through(chip, sheet, rig, held, code, data, reply, frame, sums, each);
     Played {
         rig: end,
         answer: Answer::Played,

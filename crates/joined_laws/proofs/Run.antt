@@ -17,13 +17,13 @@ use Rattle.rules.specs.declared.Stage.the-variants.{New, Over}
 use Rattle.rules.specs.declared.Verdict.the-variants.{Accepted}
 use Rattle.rules.specs.Chip.{small, start, flashSize}
 use Rattle.rules.specs.Sheet.{count, verdict, stepAt}
-use Rattle.rules.specs.Meaning.{Done, Ended, ended, meaningFrom, meaning}
+use Rattle.rules.specs.Meaning.{Done, Ended, ended, stepMeaning, meaningFrom, meaning}
 use Rattle.rules.specs.Player.{player, well, Absorbed, beginning, started, Sent, reportOf, reportBy}
 use Rattle.rules.specs.Run.{clean, Joined, joining, takenIn, Ran, ran, none, runFrom, mostFrom, mostCalls, run, stepRun, waits}
 use Rattle.chip_finder.proofs.ThereAndBack.{small-apart}
 use Rattle.sheet.proofs.Accepted.{whole}
 use Rattle.player_laws.proofs.Moves.{absorb-new, emit-over}
-use Rattle.joined_laws.specs.Turns.{Sized, Fit, Settled, mostCounted, AtBeginning, Leaves, stepLeaves, StepEnds, StepRuns, endOf, Comes, Means}
+use Rattle.joined_laws.specs.Turns.{Sized, Fit, Settled, mostCounted, AtBeginning, Leaves, leaves, StepEnds, StepRuns, endOf, Comes, Means}
 use Rattle.joined_laws.proofs.Sizes.{few-from}
 use Rattle.joined_laws.proofs.Steps.{step-ends}
 
@@ -59,15 +59,20 @@ module _ (chip : Chip) (s : List ℕ) where
     pub settled : Settled chip (j .state)
     pub fit : Fit chip (j .state .memory)
 
-  -- that step was played: where the run stands behind it
+  -- what that step comes to
+  abbrev pub doneAt : ℕ → Joined → Done
+  doneAt i j = stepMeaning (j .state .options) s (stepAt chip s i) (j .state .memory)
+
+  -- that step was played: how it ended, and where the run stands behind it
   pub record Played (i n left c calls : ℕ) (j : Joined) : Type 0 where
     pub begins : AtBeginning chip s j
     pub end : Joined
-    pub frames : ℕ
     pub ran : stepRun clean chip s c j ≡ ran true end
-    pub some : 0 < calls - frames
-    pub goes-on : runFrom clean chip s c calls j ≡ runFrom clean chip s (c + frames) (calls - frames) end
-    pub stands : (end .player .stage ≡ Over) ⊎ Before (i + 1) (n + frames) left (calls - frames) end
+    pub ends : StepEnds chip s i n (j .sums) (leaves (doneAt i j) (j .state .options)) end
+    pub some : 0 < calls - doneAt i j .frames
+    pub goes-on : runFrom clean chip s c calls j ≡ runFrom clean chip s (c + doneAt i j .frames) (calls - doneAt i j .frames) end
+    pub stands : ((doneAt i j .status ≡ 0x06 → ⊥) × (end .player .stage ≡ Over))
+        ⊎ ((doneAt i j .status ≡ 0x06) × Before (i + 1) (n + doneAt i j .frames) left (calls - doneAt i j .frames) end)
 
   -- what the run then comes to
   abbrev Meant : ℕ → ℕ → ℕ → ℕ → ℕ → Joined → Type 0
@@ -84,11 +89,11 @@ module _ (chip : Chip) (s : List ℕ) where
 
   -- a step, and those behind it
   module _ (sized : Sized chip) (room : ℕ) (ok : verdict chip s room ≡ Accepted) (i n left c calls : ℕ) (j : Joined) (b : Before i n (suc left) calls j) where
-    abbrev e : Leaves
-    e = stepLeaves (j .state .options) s (stepAt chip s i) (j .state .memory)
-
     abbrev d : Done
-    d = e .done
+    d = doneAt i j
+
+    abbrev e : Leaves
+    e = leaves d (j .state .options)
 
     -- the player's record, written out
     abbrev there : Joined
@@ -147,16 +152,17 @@ module _ (chip : Chip) (s : List ℕ) where
         record {
           begins = subst (AtBeginning chip s) (sym there-is) begins;
           end = end;
-          frames = d .frames;
           ran = ap (stepRun clean chip s c) there-is ∙ now .ran;
+          ends = ends;
           some = omega (arith, enough-after);
           goes-on = goes-on;
           stands = go (eqb (d .status) 0x06) refl;
         }
       where
-        go : (t : Bool) → eqb (d .status) 0x06 ≡ t → (end .player .stage ≡ Over) ⊎ Before (i + 1) (n + d .frames) left after end
-        go true h = inr (next (eqb-true (d .status) 0x06 h))
-        go false h = inl (ends .halted (eqb-false (d .status) 0x06 h) .1)
+        go : (t : Bool) → eqb (d .status) 0x06 ≡ t
+            → ((d .status ≡ 0x06 → ⊥) × (end .player .stage ≡ Over)) ⊎ ((d .status ≡ 0x06) × Before (i + 1) (n + d .frames) left after end)
+        go true h = inr (eqb-true (d .status) 0x06 h, next (eqb-true (d .status) 0x06 h))
+        go false h = inl (eqb-false (d .status) 0x06 h, ends .halted (eqb-false (d .status) 0x06 h) .1)
 
     step-on : (d .status ≡ 0x06 → Meant (i + 1) (n + d .frames) left (c + d .frames) after end) → Meant i n (suc left) c calls j
     unfolding meaningFrom

@@ -17,11 +17,11 @@ use Rattle.rules.specs.Options.{freshOptions}
 use Rattle.rules.specs.Command.{phaseNumber}
 use Rattle.rules.specs.StandIn.{State, feed, powered, powerOn, byteCall, rest}
 use Rattle.rules.specs.Sheet.{verdict}
-use Rattle.rules.specs.Meaning.{Ended, meaning}
+use Rattle.rules.specs.Meaning.{Ended, meaning, stepFrames}
 use Rattle.rules.specs.Numbers.{callNumber, verdictNumber, nextNumber, statusNumber}
 use Rattle.rules.specs.Player.{called}
 use Rattle.rules.specs.Run.{Joined, Ran, clean, joinedAtStart, run, waits}
-use Rattle.rules.specs.Rows.{sameNumber, sameOptions, sameMemory, alike, Exchange, Session, comesLast, exchanged, holds, allHold, Play, reports, noSums, meant, ranTo, opened, plays, allPlay, Lending, lentMemory, lends, allLend, Calling, calls, allCall}
+use Rattle.rules.specs.Rows.{sameNumber, sameOptions, sameMemory, alike, Exchange, Session, comesLast, exchanged, holds, allHold, Play, reports, noSums, noFrames, meant, ranTo, opened, plays, allPlay, Lending, lentMemory, lends, allLend, Calling, calls, allCall}
 use Rattle.rules.proofs.Bytes.{same-equal}
 use Rattle.rules.proofs.Choices.{both}
 
@@ -202,23 +202,28 @@ abbrev runOf : Play → Ran
 runOf t =
     run clean (t .chip) (t .sheet) (joinedAtStart (opened (t .chip) (t .options) (t .memory)) (replicate 260 0) (replicate 16 0) noSums)
 
+abbrev eachOf : Play → List ℕ
+eachOf t = stepFrames (t .chip) (t .sheet) (t .options) (t .memory) noFrames
+
 pub record Played (t : Play) : Type 0 where
   pub verdict : verdictNumber (verdict (t .chip) (t .sheet) 4) ≡ t .verdict
-  pub accepted : t .verdict .letter ≡ 0 → Meant (meaningOf t) t × (runOf t .complete ≡ true) × RanTo (runOf t .reached) t
+  pub accepted : t .verdict .letter ≡ 0
+      → Meant (meaningOf t) t × (eachOf t ≡ t .each) × (runOf t .complete ≡ true) × RanTo (runOf t .reached) t
 
 played : (t : Play) → plays t ≡ true → Played t
 unfolding plays
 played t h =
-    let m = meant (meaningOf t) t in
+    let m = meant (meaningOf t) t && same (eachOf t) (t .each) in
     let r = ranTo (runOf t .reached) t in
     let p = both (sameNumber (verdictNumber (verdict (t .chip) (t .sheet) 4)) (t .verdict)) (cond (eqb (t .verdict .letter) 0) (m && runOf t .complete && r) true) h in
     record {
       verdict = number-equal (verdictNumber (verdict (t .chip) (t .sheet) 4)) (t .verdict) (p .0);
       accepted =
           λ z.
-          let b = both (m && runOf t .complete) r (asked (eqb (t .verdict .letter) 0) (m && runOf t .complete && r) (eq-eqb (t .verdict .letter) 0 z) (p .1)) in
-          let a = both m (runOf t .complete) (b .0) in
-          (is-meant (meaningOf t) t (a .0), a .1, ran-to (runOf t .reached) t (b .1));
+          let c = both (m && runOf t .complete) r (asked (eqb (t .verdict .letter) 0) (m && runOf t .complete && r) (eq-eqb (t .verdict .letter) 0 z) (p .1)) in
+          let b = both m (runOf t .complete) (c .0) in
+          let a = both (meant (meaningOf t) t) (same (eachOf t) (t .each)) (b .0) in
+          (is-meant (meaningOf t) t (a .0), same-equal (eachOf t) (t .each) (a .1), b .1, ran-to (runOf t .reached) t (c .1));
     }
   where
     asked : (x b : Bool) → x ≡ true → cond x b true ≡ true → b ≡ true

@@ -109,3 +109,17 @@ meaningFrom chip s o m i frames sums (suc left) =
 -- THE MEANING of an accepted sheet, on options, flash and a list for sums
 unfoldable pub meaning : Chip → List ℕ → Options → Memory → List ℕ → Ended
 meaning chip s o m sums = meaningFrom chip s o m 0 0 sums (count s)
+
+-- the frames of each step, in a list lent for them: those of step i and of so many behind it, "up to the first that fails"; entries of steps
+-- not reached stand
+unfoldable pub stepFramesFrom : Chip → List ℕ → Options → Memory → ℕ → List ℕ → ℕ → List ℕ
+stepFramesFrom chip s o m i each zero = each
+stepFramesFrom chip s o m i each (suc left) =
+    let d = stepMeaning o s (stepAt chip s i) m in
+    let put = set each i (d .frames) in
+    let later = stepFramesFrom chip s o (d .memory) (i + 1) put left in
+    cond (eqb (d .status) 0x06) later put
+
+-- THE FRAMES OF EACH STEP of an accepted sheet
+unfoldable pub stepFrames : Chip → List ℕ → Options → Memory → List ℕ → List ℕ
+stepFrames chip s o m each = stepFramesFrom chip s o m 0 each (count s)

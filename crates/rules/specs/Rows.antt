@@ -18,7 +18,7 @@ use Rattle.rules.specs.Frame.{commandStart, dataStart, lastEnd, frame, s
 use Rattle.rules.specs.Command.{phaseNumber}
 use Rattle.rules.specs.StandIn.{State, feed, powered, powerOn, byteCall, rest}
 use Rattle.rules.specs.Sheet.{verdict}
-use Rattle.rules.specs.Meaning.{Ended, meaning}
+use Rattle.rules.specs.Meaning.{Ended, meaning, stepFrames}
 use Rattle.rules.specs.Numbers.{callNumber, verdictNumber, nextNumber, statusNumber}
 use Rattle.rules.specs.Player.{called}
 use Rattle.rules.specs.Run.{Joined, clean, joinedAtStart, run, waits}
@@ -117,6 +117,7 @@ pub record Play : Type 0 where
   pub frames : ℕ
   pub pieces : ℕ
   pub sums : List ℕ
+  pub each : List ℕ
   pub memoryAfter : Memory
 
 -- a report of those four
@@ -129,6 +130,13 @@ reports r status steps frames pieces =
 
 abbrev pub noSums : List ℕ
 noSums = replicate 4 0
+
+-- a list for the frames of each step, as it is lent: an entry that stands is seen
+abbrev pub unreached : ℕ
+unreached = 99
+
+abbrev pub noFrames : List ℕ
+noFrames = replicate 4 unreached
 
 abbrev pub meant : Ended → Play → Bool
 meant e t =
@@ -167,7 +175,8 @@ plays t =
     let e = meaning (t .chip) (t .sheet) (t .options) (t .memory) noSums in
     let start = joinedAtStart (opened (t .chip) (t .options) (t .memory)) (replicate 260 0) (replicate 16 0) noSums in
     let ran = run clean (t .chip) (t .sheet) start in
-    let both = meant e t && ran .complete && ranTo (ran .reached) t in
+    let each = stepFrames (t .chip) (t .sheet) (t .options) (t .memory) noFrames in
+    let both = meant e t && same each (t .each) && ran .complete && ranTo (ran .reached) t in
     sameNumber said (t .verdict) && cond (eqb (t .verdict .letter) 0) both true
 
 unfoldable pub allPlay : List Play → Bool

@@ -12,7 +12,7 @@ use Rattle.rules.specs.Chip.{Memory, small}
 use Rattle.rules.specs.Options.{freshOptions}
 use Rattle.rules.specs.Frame.{dataStart, lastEnd, moreEnd, frame}
 use Rattle.rules.specs.Player.{player, newPlayer, well}
-use Rattle.rules.specs.Rows.{plain, D, J, P, L, Exchange, to, Session, Play, noSums, mode, speed, Lending, Calling, blankFlash, ack, session, onFresh, optioned, ending, flags, noBoot, noErase, noWrite, askIdent, command, filled, page, badSum, one, pair, onePage, twoPages, paged, entryIn, entry}
+use Rattle.rules.specs.Rows.{plain, D, J, P, L, Exchange, to, Session, Play, noSums, unreached, mode, speed, Lending, Calling, blankFlash, ack, session, onFresh, optioned, ending, flags, noBoot, noErase, noWrite, askIdent, command, filled, page, badSum, one, pair, onePage, twoPages, paged, entryIn, entry}
 
 -- ---- sessions ----
 
@@ -234,11 +234,12 @@ refusedAs n s =
       frames = 0;
       pieces = 0;
       sums = noSums;
+      each = [];
       memoryAfter = blankFlash;
     }
 
-abbrev playing : Options → Memory → List ℕ → ℕ → ℕ → ℕ → ℕ → List ℕ → Memory → Play
-playing o m s status steps frames pieces sums after =
+abbrev playing : Options → Memory → List ℕ → ℕ → ℕ → ℕ → ℕ → List ℕ → List ℕ → Memory → Play
+playing o m s status steps frames pieces sums each after =
     record {
       chip = small;
       options = o;
@@ -250,8 +251,13 @@ playing o m s status steps frames pieces sums after =
       frames = frames;
       pieces = pieces;
       sums = sums;
+      each = each;
       memoryAfter = after;
     }
+
+-- the frames of the only step that was reached
+abbrev alone : ℕ → List ℕ
+alone n = n ∷ unreached ∷ unreached ∷ unreached ∷ []
 
 -- one step over data blocks from 0 on: erase, write, verify or sum, of two, three and four blocks
 abbrev writeTwo : List ℕ
@@ -288,7 +294,7 @@ writtenCode = record { code = replicate 30720 0xFF ++ codePages; «data» = blan
 unfoldable pub sheets : List Play
 sheets =
     -- 15: an empty sheet; one byte
-    playing freshOptions blankFlash (0x00 ∷ 0x00 ∷ []) 0x06 0 0 0 noSums blankFlash
+    playing freshOptions blankFlash (0x00 ∷ 0x00 ∷ []) 0x06 0 0 0 noSums (replicate 4 unreached) blankFlash
     ∷ refusedAs 1 (0x00 ∷ [])
     -- 16: erase, write and sum of F1000h to F10FFh, body all A5h
     ∷ playing
@@ -300,9 +306,10 @@ sheets =
     4
     0
     (0 ∷ 0 ∷ 0x5B00 ∷ 0 ∷ [])
+    (1 ∷ 2 ∷ 1 ∷ unreached ∷ [])
     (paged 0 0xA5 blankFlash)
     -- trials 10 and 11 as sheets: pieces 0 in both
-    ∷ playing freshOptions (paged 0 0x00 blankFlash) writeTwo 0x1C 0 3 0 noSums (paged 0 0x00 blankFlash)
+    ∷ playing freshOptions (paged 0 0x00 blankFlash) writeTwo 0x1C 0 3 0 noSums (alone 3) (paged 0 0x00 blankFlash)
     ∷ playing
     freshOptions
     (paged 1 0x00 blankFlash)
@@ -312,6 +319,7 @@ sheets =
     3
     0
     noSums
+    (alone 3)
     (paged 0 0xA5 (paged 1 0x00 blankFlash))
     -- three pages of which the last is not blank: 1 piece; four of which the second is not, and two frames are not sent; a protected write
     ∷ playing
@@ -323,6 +331,7 @@ sheets =
     4
     1
     noSums
+    (alone 4)
     (paged 0 0xA5 (paged 1 0x5A (paged 2 0x00 blankFlash)))
     ∷ playing
     freshOptions
@@ -333,15 +342,16 @@ sheets =
     4
     1
     noSums
+    (alone 4)
     (paged 0 0xA5 (paged 1 0x00 blankFlash))
-    ∷ playing noWrite blankFlash writeTwo 0x10 0 3 0 noSums blankFlash
+    ∷ playing noWrite blankFlash writeTwo 0x10 0 3 0 noSums (alone 3) blankFlash
     -- a code block has eight pages
-    ∷ playing freshOptions blankFlash writeCode 0x06 1 9 0 noSums writtenCode
-    ∷ playing freshOptions blankFlash verifyCode 0x06 1 9 0 noSums blankFlash
+    ∷ playing freshOptions blankFlash writeCode 0x06 1 9 0 noSums (alone 9) writtenCode
+    ∷ playing freshOptions blankFlash verifyCode 0x06 1 9 0 noSums (alone 9) blankFlash
     -- three blocks erased; a Verify without a difference, and with one; a sum before a protected erase
-    ∷ playing freshOptions (paged 1 0x00 blankFlash) eraseThree 0x06 1 3 0 noSums blankFlash
-    ∷ playing freshOptions blankFlash verifyThree 0x06 1 4 0 noSums blankFlash
-    ∷ playing freshOptions (paged 1 0x00 blankFlash) verifyThree 0x0F 0 4 0 noSums (paged 1 0x00 blankFlash)
+    ∷ playing freshOptions (paged 1 0x00 blankFlash) eraseThree 0x06 1 3 0 noSums (alone 3) blankFlash
+    ∷ playing freshOptions blankFlash verifyThree 0x06 1 4 0 noSums (alone 4) blankFlash
+    ∷ playing freshOptions (paged 1 0x00 blankFlash) verifyThree 0x0F 0 4 0 noSums (alone 4) (paged 1 0x00 blankFlash)
     ∷ playing
     noErase
     blankFlash
@@ -351,6 +361,19 @@ sheets =
     2
     0
     (0x0100 ∷ 0 ∷ 0 ∷ 0 ∷ [])
+    (1 ∷ 1 ∷ unreached ∷ unreached ∷ [])
+    blankFlash
+    -- and a protected erase before a sum, which is not reached
+    ∷ playing
+    noErase
+    blankFlash
+    (0x02 ∷ 0x00 ∷ (entry 1 0x10 0x10 26 ++ entry 4 0x10 0x10 26))
+    0x10
+    0
+    1
+    0
+    noSums
+    (alone 1)
     blankFlash
     -- the refusals, J2 at 64 and 65; with two faults the first is named
     ∷ refusedAs 2 (0x41 ∷ 0x00 ∷ [])

@@ -28,6 +28,7 @@ pub extern "C" fn rattle_play(
     reply: &mut [u8],
     frame: &mut [u8],
     sums: &mut [u16],
+    each: &mut [usize; 64],
 ) -> usize {
     let played = play(
         chip_finder::small(),
@@ -39,6 +40,7 @@ pub extern "C" fn rattle_play(
         reply,
         frame,
         sums,
+        each,
     );
     let answer = played.answer;
     let rig = played.rig;

@@ -1,5 +1,5 @@
 -- `joined::step::play_step` meets its contract: each outcome has its law. Assumes nothing.
-use mathlib.Core.Path.{sym, ap, _∙_}
+use mathlib.Core.Path.{refl, sym, ap, _∙_}
 use borrow.Author.Tests.{not-true, not-false}
 use Rattle.rules.specs.Run.{Joined}
 use Rattle.joined_step.specs.Rigs.{rigged}
@@ -17,25 +17,25 @@ start c =
     rigged (record { player = a .p; core = a .c; arrived = 0 }) (a .held .now) (a .code .now) (a .«data» .now) (a .reply .now) (a .frame .now) (a .sums .now)
 
 returns : tie.Need-returns
-returns c z =
+returns c =
     let r = c .before .before .before in
     let s = r .before .before .before .before .before .before .before in
-    sym (step-refused (s .args .chip) (s .args .sheet .now) (start r) _ (sym (r .refusal .ensures) ∙ c .before .refusal2 .given .1))
+    ((λ z. sym (step-refused (s .args .chip) (s .args .sheet .now) (start r) _ (sym (r .refusal .ensures) ∙ c .before .refusal2 .given .1))), λ n. refl)
 
 returns-2 : tie.Need-returns-2
-returns-2 c z =
+returns-2 c =
     let e = c .before .before in
     let r = e .before .before in
     let s = r .before .before .before .before .before .before .before in
-    sym (step-not-begun (s .args .chip) (s .args .sheet .now) (start r) (sym (r .refusal .ensures) ∙ e .enum-told .given .1) (sym (c .before .starts-step .ensures) ∙ not-true _ (c .if1 .taken)))
+    ((λ z. sym (step-not-begun (s .args .chip) (s .args .sheet .now) (start r) (sym (r .refusal .ensures) ∙ e .enum-told .given .1) (sym (c .before .starts-step .ensures) ∙ not-true _ (c .if1 .taken)))), λ n. refl)
 
 returns-3 : tie.Need-returns-3
-returns-3 c z =
+returns-3 c =
     let i = c .before .before .before in
     let e = i .before .before in
     let r = e .before .before in
     let s = r .before .before .before .before .before .before .before in
-    sym (step-busy (s .args .chip) (s .args .sheet .now) (start r) (sym (r .refusal .ensures) ∙ e .enum-told .given .1) (sym (i .before .starts-step .ensures) ∙ not-false _ (i .if1 .left)) (sym (c .before .waits .ensures _) ∙ not-true _ (c .if2 .taken)))
+    ((λ z. sym (step-busy (s .args .chip) (s .args .sheet .now) (start r) (sym (r .refusal .ensures) ∙ e .enum-told .given .1) (sym (i .before .starts-step .ensures) ∙ not-false _ (i .if1 .left)) (sym (c .before .waits .ensures _) ∙ not-true _ (c .if2 .taken)))), λ n. refl)
 
 step-through-requires : tie.Need-step-through-requires
 step-through-requires c κs z =
@@ -47,15 +47,17 @@ step-through-requires c κs z =
     starts (s .args .chip) (s .args .sheet .now) (start r) z (sym (r .refusal .ensures) ∙ e .enum-told .given .1) (sym (i .before .starts-step .ensures) ∙ not-false _ (i .if1 .left)) (sym (w .before .waits .ensures _) ∙ not-false _ (w .if2 .left))
 
 returns-4 : tie.Need-returns-4
-returns-4 c z =
+returns-4 c =
     let t = c .before .before .before .before .before .before .before .before .before .before in
     let w = t .before .before .before .before .before .before .before in
     let i = w .before .before .before in
     let e = i .before .before in
     let r = e .before .before in
-    let s = r .before .before .before .before .before .before .before in
-    ap (outcome Played) (t .step-through .ensures z)
-    ∙ sym (step-played (s .args .chip) (s .args .sheet .now) (start r) (sym (r .refusal .ensures) ∙ e .enum-told .given .1) (sym (i .before .starts-step .ensures) ∙ not-false _ (i .if1 .left)) (sym (w .before .waits .ensures _) ∙ not-false _ (w .if2 .left)))
+    let s = r .before .before .before .before .before .before .before in (
+      (λ z. ap (outcome Played) (t .step-through .ensures z)
+          ∙ sym (step-played (s .args .chip) (s .args .sheet .now) (start r) (sym (r .refusal .ensures) ∙ e .enum-told .given .1) (sym (i .before .starts-step .ensures) ∙ not-false _ (i .if1 .left)) (sym (w .before .waits .ensures _) ∙ not-false _ (w .if2 .left)))),
+      λ n. absurd (n refl),
+    )
 
 pub play-step-spec : {M : Type 1} → statement M
 play-step-spec =

@@ -1,13 +1,12 @@
 -- `joined::whole::play` meets its contract: each outcome has its law. Assumes nothing.
-use mathlib.Core.Path.{_≡_, sym, ap, _∙_}
+use mathlib.Core.Path.{_≡_, refl, sym, ap, _∙_}
 use borrow.Author.Tests.{not-true, not-false}
 use Rattle.rules.specs.declared.Player.{Player}
 use Rattle.rules.specs.Player.{newPlayer}
 use Rattle.rules.specs.Run.{Joined}
-use Rattle.joined.specs.declared.Answer.the-variants.{Played}
 use Rattle.joined_step.specs.Rigs.{rigged}
 use Rattle.joined_checks.specs.Checks.{joinedVerdict}
-use Rattle.joined.specs.Plays.{lengths, outcome, sheetPlayed}
+use Rattle.joined.specs.Plays.{lengths, sheetPlayed, Given, given}
 use Rattle.joined.proofs.Calls.{sheet-refused, sheet-busy, sheet-played, opens}
 use borrow.Author.Needs.{needs}
 use Rattle.joined.proofs.whole.play.Statement.{statement}
@@ -24,10 +23,19 @@ start c = with c (c .new-player .result)
 
 -- the call, by the player that the code has
 as-called : (c : tie.After-new-player) → let a = c .before .before .before .before .before .before .before .args in
-    sheetPlayed (a .chip) (a .sheet .now) (start c) ≡ sheetPlayed (a .chip) (a .sheet .now) (with c newPlayer)
+    sheetPlayed (a .chip) (a .sheet .now) (start c) (a .each .now) ≡ sheetPlayed (a .chip) (a .sheet .now) (with c newPlayer) (a .each .now)
 as-called c =
     let a = c .before .before .before .before .before .before .before .args in
-    ap (λ (p : Player). sheetPlayed (a .chip) (a .sheet .now) (with c p)) (c .new-player .ensures)
+    ap (λ (p : Player). sheetPlayed (a .chip) (a .sheet .now) (with c p) (a .each .now)) (c .new-player .ensures)
+
+-- and all that stands where it is not played
+abbrev kept : tie.After-new-player → Player → Given
+kept c p =
+    let a = c .before .before .before .before .before .before .before .args in
+    given (record { player = p; core = a .c; arrived = 0 }) (a .held .now) (a .code .now) (a .«data» .now) (a .reply .now) (a .frame .now) (a .sums .now)
+
+stood : (c : tie.After-new-player) → kept c (c .new-player .result) ≡ kept c newPlayer
+stood c = ap (kept c) (c .new-player .ensures)
 
 judged : (c : tie.After-refusal) → let a = c .before .before .before .before .before .before .before .before .args in
     joinedVerdict (a .chip) (a .sheet .now) newPlayer (lengths (start (c .before))) ≡ c .refusal .result
@@ -36,23 +44,23 @@ judged c =
     ap (λ (p : Player). joinedVerdict (a .chip) (a .sheet .now) p (lengths (start (c .before)))) (sym (c .before .new-player .ensures)) ∙ sym (c .refusal .ensures)
 
 returns : tie.Need-returns
-returns c z =
+returns c =
     let r = c .before .before .before in
     let n = r .before in
     let s = n .before .before .before .before .before .before .before in
-    sym (sheet-refused (s .args .chip) (s .args .sheet .now) (start n) _ (judged r ∙ c .before .refusal2 .given .1)) ∙ as-called n
+    ((λ z. sym (sheet-refused (s .args .chip) (s .args .sheet .now) (start n) (s .args .each .now) _ (judged r ∙ c .before .refusal2 .given .1)) ∙ as-called n), ((λ u. stood n), λ u. refl))
 
 returns-2 : tie.Need-returns-2
-returns-2 c z =
+returns-2 c =
     let e = c .before .before .before in
     let r = e .before .before in
     let n = r .before in
     let s = n .before .before .before .before .before .before .before in
-    sym (sheet-busy (s .args .chip) (s .args .sheet .now) (start n) (judged r ∙ e .enum-told .given .1) (sym (c .before .waits .ensures _) ∙ not-true _ (c .if1 .taken))) ∙ as-called n
+    ((λ z. sym (sheet-busy (s .args .chip) (s .args .sheet .now) (start n) (s .args .each .now) (judged r ∙ e .enum-told .given .1) (sym (c .before .waits .ensures _) ∙ not-true _ (c .if1 .taken))) ∙ as-called n), ((λ u. stood n), λ u. refl))
 
 steps-through-requires : tie.Need-steps-through-requires
 steps-through-requires c κs z =
-    let w = c .before .before .before .before .before .before in
+    let w = c .before .before .before .before .before .before .before in
     let e = w .before .before .before in
     let r = e .before .before in
     let n = r .before in
@@ -60,16 +68,18 @@ steps-through-requires c κs z =
     opens (s .args .chip) (s .args .sheet .now) (start n) z (n .new-player .ensures) (judged r ∙ e .enum-told .given .1) (sym (w .before .waits .ensures _) ∙ not-false _ (w .if1 .left))
 
 returns-3 : tie.Need-returns-3
-returns-3 c z =
+returns-3 c =
     let t = c .before .before .before .before .before .before .before .before .before .before in
-    let w = t .before .before .before .before .before .before .before in
+    let w = t .before .before .before .before .before .before .before .before in
     let e = w .before .before .before in
     let r = e .before .before in
     let n = r .before in
-    let s = n .before .before .before .before .before .before .before in
-    ap (outcome Played) (t .steps-through .ensures z)
-    ∙ sym (sheet-played (s .args .chip) (s .args .sheet .now) (start n) (judged r ∙ e .enum-told .given .1) (sym (w .before .waits .ensures _) ∙ not-false _ (w .if1 .left)))
-    ∙ as-called n
+    let s = n .before .before .before .before .before .before .before in (
+      (λ z. t .steps-through .ensures z
+          ∙ sym (sheet-played (s .args .chip) (s .args .sheet .now) (start n) (s .args .each .now) (judged r ∙ e .enum-told .given .1) (sym (w .before .waits .ensures _) ∙ not-false _ (w .if1 .left)))
+          ∙ as-called n),
+      ((λ u. absurd (u refl)), λ u. absurd (u refl)),
+    )
 
 pub play-spec : {M : Type 1} → statement M
 play-spec =

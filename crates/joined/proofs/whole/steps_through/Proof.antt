@@ -2,20 +2,20 @@
 use mathlib.Core.Path.{_≡_, refl, sym, ap, _∙_}
 use Prim.Native.Nat.{_-_, _<_}
 use native.Mathlib.Omega.{arith}
-use lib.ListN.{length}
+use lib.ListN.{length, set}
 use borrow.Author.Needs.{needs}
-use Rattle.rules.specs.Run.{clean, Joined, Ran, takenIn, runFrom, mostCalls, run}
+use Rattle.rules.specs.Run.{Joined, takenIn}
 use Rattle.rules.specs.Sheet.{count}
 use Rattle.joined_laws.specs.Turns.{Sized}
 use Rattle.joined_step.specs.Rigs.{rigged}
 use Rattle.joined_step.specs.Turn.{Rooms}
-use Rattle.joined.proofs.Through.{Through, first-call, run-as, opening, told-over, all-done, may-start, step-done}
+use Rattle.joined.proofs.Through.{Through, first-call, ended-as, opening, told-over, all-done, may-start, step-done}
 use Rattle.joined.proofs.whole.steps_through.Statement.{statement}
 use Rattle.joined.proofs.whole.steps_through.Tie as tie
 
 abbrev Inv-loop : tie.InvT-loop
-Inv-loop chip sheet held₀ code₀ data₀ reply₀ frame₀ sums₀ rig₀ n i₀ held code «data» reply frame sums rig i =
-    (Sized chip → Through chip sheet (rigged rig₀ held₀ code₀ data₀ reply₀ frame₀ sums₀) i (rigged rig held code «data» reply frame sums))
+Inv-loop chip sheet held₀ code₀ data₀ reply₀ frame₀ sums₀ each₀ rig₀ n i₀ held code «data» reply frame sums each rig i =
+    (Sized chip → Through chip sheet (rigged rig₀ held₀ code₀ data₀ reply₀ frame₀ sums₀) each₀ i (rigged rig held code «data» reply frame sums) each)
     × (length code ≡ length code₀)
     × (length «data» ≡ length data₀)
     × (length reply ≡ length reply₀)
@@ -25,7 +25,7 @@ Inv-loop chip sheet held₀ code₀ data₀ reply₀ frame₀ sums₀ rig₀ n i
     × (n < 65536)
 
 abbrev μ-loop : tie.MeasureT-loop
-μ-loop chip sheet held₀ code₀ data₀ reply₀ frame₀ sums₀ rig₀ n i₀ held code «data» reply frame sums rig i = n - i
+μ-loop chip sheet held₀ code₀ data₀ reply₀ frame₀ sums₀ each₀ rig₀ n i₀ held code «data» reply frame sums each rig i = n - i
 
 -- what is shown at the beginning, and after the first call
 abbrev start : tie.After-absorb Inv-loop μ-loop → Joined
@@ -46,12 +46,6 @@ called c z =
 kept-first : (c : tie.After-absorb Inv-loop μ-loop) → length (c .absorb .last .1 .1 .1 .1 .0) ≡ length (c .before .before .before .before .before .before .before .before .before .before .before .before .args .sums .now)
 kept-first c = search needs
 
--- the end of the run that was begun so
-ended : (c : tie.After-absorb Inv-loop μ-loop) → let a = c .before .before .before .before .before .before .before .before .before .before .before .before .args in
-    Sized (a .chip)
-    → runFrom clean (a .chip) (a .sheet .now) 0 (mostCalls (a .chip) (a .sheet .now)) (first c) .reached ≡ run clean (a .chip) (a .sheet .now) (start c) .reached
-ended c z = ap (λ (r : Ran). r .reached) (run-as _ _ (start c) (first c) (called c z))
-
 loop-holds : tie.Need-loop-holds Inv-loop μ-loop
 loop-holds c =
     let t = c .before .before .before in
@@ -59,20 +53,21 @@ loop-holds c =
     let o = s .pre in
     let rooms : Sized (s .args .chip) → Rooms (s .args .chip) (s .args .sheet .now) (first t) =
     λ z. record { accepted = rw (kept-first t) (o z .rooms .accepted); frame = o z .rooms .frame; reply = o z .rooms .reply } in
-    ((λ z. opening _ _ (start t) (o z) (first t) (called t z) (rooms z)), refl, refl, refl, refl, refl, c .count .ensures .0, c .count .ensures .1)
+    ((λ z. opening _ _ (start t) (o z) (first t) (called t z) (rooms z) _), refl, refl, refl, refl, refl, c .count .ensures .0, c .count .ensures .1)
 
 returns : tie.Need-returns Inv-loop μ-loop
 returns c z =
     let l = c .before .before .before .before .loop in
     let t = c .before .before .before .before .before .before .before .before in
-    told-over _ _ _ _ _ (l .inv .0 z) (sym (c .before .is-over .ensures) ∙ c .if1 .taken) ∙ ended t z
+    let e = told-over _ _ _ _ _ _ _ (l .inv .0 z) (omega (arith, c .before .before .before .loop-test .taken, l .inv .6)) (sym (c .before .is-over .ensures) ∙ c .if1 .taken) in
+    ended-as _ _ (start t) (first t) (called t z) refl _ _ _ (e .0) (e .1)
 
 step-through-requires : tie.Need-step-through-requires Inv-loop μ-loop
 step-through-requires c κs z =
     let i = c .before .before .before .before .before .before in
     let l = i .before .before .before .before .loop in
     let v = l .inv in
-    may-start _ _ _ _ _ (v .0 z) (omega (arith, i .before .before .before .loop-test .taken, v .6)) (sym (i .before .is-over .ensures) ∙ i .if1 .left)
+    may-start _ _ _ _ _ _ _ (v .0 z) (omega (arith, i .before .before .before .loop-test .taken, v .6)) (sym (i .before .is-over .ensures) ∙ i .if1 .left)
 
 -- the lent buffers keep their lengths
 kept-code : (c : tie.After-step-through Inv-loop μ-loop) → length (c .step-through .last .1 .1 .1 .1 .0) ≡ length (c .before .before .before .before .before .before .before .before .before .before .before .loop .code)
@@ -90,9 +85,21 @@ kept-frame c = search needs
 kept-sums : (c : tie.After-step-through Inv-loop μ-loop) → length (c .step-through .last .1 .1 .1 .1 .1 .1 .1 .1 .0) ≡ length (c .before .before .before .before .before .before .before .before .before .before .before .loop .sums)
 kept-sums c = search needs
 
+add-i : tie.Need-add-i Inv-loop μ-loop
+add-i c =
+    let t = c .before .before .before .before .before .before .before .before .before .before .before .before .before .before in
+    let i = t .before .before .before .before .before .before .before in
+    record { fits = omega (arith, i .before .before .before .loop-test .taken, i .before .before .before .before .loop .inv .7) }
+
+loop-less : tie.Need-loop-less Inv-loop μ-loop
+loop-less c =
+    let t = c .before .before .before .before .before .before .before .before .before .before .before .before .before .before in
+    let i = t .before .before .before .before .before .before .before in
+    omega (arith, i .before .before .before .loop-test .taken)
+
 loop-again : tie.Need-loop-again Inv-loop μ-loop
 loop-again c =
-    let t = c .before .before .before .before .before .before .before .before .before .before in
+    let t = c .before .before .before .before .before .before .before .before .before .before .before .before .before .before in
     let i = t .before .before .before .before .before .before .before in
     let l = t .before .before .before .before .before .before .before .before .before .before .before .loop in
     let a = t .before .before .before .before .before .before .before .before .before .before .before .before .before .before .before .before .before .before .before .before .before .before .before .before .before .before .before .args in
@@ -104,7 +111,7 @@ loop-again c =
       frame = rw (kept-frame t) (v .0 z .rooms .frame);
       reply = rw (kept-reply t) (v .0 z .rooms .reply);
     } in (
-      (λ z. step-done _ _ _ _ _ (v .0 z) (omega (arith, i .before .before .before .loop-test .taken, v .6)) (sym (i .before .is-over .ensures) ∙ i .if1 .left) _ (t .step-through .ensures z) (rooms z)),
+      (λ z. step-done _ _ _ _ _ _ _ (v .0 z) (omega (arith, i .before .before .before .loop-test .taken, v .6)) (sym (i .before .is-over .ensures) ∙ i .if1 .left) _ (t .step-through .ensures z) (rooms z) _ (c .put-frames .ensures ∙ ap (set (l .each) (l .i)) (c .before .grown .ensures))),
       kept-code t ∙ v .1,
       kept-data t ∙ v .2,
       kept-reply t ∙ v .3,
@@ -118,7 +125,8 @@ returns-2 : tie.Need-returns-2 Inv-loop μ-loop
 returns-2 c z =
     let l = c .before .loop in
     let t = c .before .before .before .before .before in
-    all-done _ _ _ _ _ (l .inv .0 z) (omega (arith, c .loop-test .left, l .inv .6)) ∙ ended t z
+    let e = all-done _ _ _ _ _ _ _ (l .inv .0 z) (omega (arith, c .loop-test .left, l .inv .6)) in
+    ended-as _ _ (start t) (first t) (called t z) refl _ _ _ (e .0) (e .1)
 
 pub steps-through-spec : {M : Type 1} → statement M
 steps-through-spec =
@@ -140,8 +148,10 @@ steps-through-spec =
     (λ c. search needs)
     returns
     step-through-requires
-    (λ c. search needs)
-    (λ c. search needs)
+    (λ c κs. search needs)
+    (λ c κs. search needs)
+    add-i
+    loop-less
     loop-again
     (λ c. search needs)
     (λ c. search needs)

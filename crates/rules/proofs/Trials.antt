@@ -6,6 +6,7 @@ use Rattle.rules.specs.Rows.{comesLast, exchanged, holds, allHold, plays
 use Rattle.rules.specs.Starred.{starred}
 use Rattle.rules.specs.Trials.{further, sheets, lengths, playerCalls}
 use Rattle.rules.proofs.Rows.{All, Held, all-held, Played, all-played, Lent, all-lent, Answers, all-answer}
+use Rattle.rules.specs.Texts.{allPrint, printed, texts}
 
 -- THE STARRED TRIALS, 1 to 12
 pub starred-trials : allHold starred ≡ true
@@ -47,3 +48,7 @@ lengths-say = all-lent lengths length-trials
 
 pub calls-say : All Answers playerCalls
 calls-say = all-answer playerCalls call-trials
+-- what is printed, trials 15 and 16 among them
+pub text-trials : allPrint texts ≡ true
+unfolding everything allPrint printed texts
+text-trials = refl

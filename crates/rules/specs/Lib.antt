@@ -10,7 +10,9 @@ pub mod Meaning
 pub mod Player
 pub mod Numbers
 pub mod Run
+pub mod Text
 pub mod Compute
 pub mod Rows
 pub mod Starred
 pub mod Trials
+pub mod Texts

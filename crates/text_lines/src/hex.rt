@@ -32,15 +32,6 @@ pub fn value(byte: u8) -> u8
     16
 }
 
-// The digit of a value; of a larger value, its last digit.
-pub fn digit(v: u8) -> u8 {
-    let low = v % 16;
-    if low < 10 {
-        return b'0' + low;
-    }
-    b'A' + (low - 10)
-}
-
 // A number with one digit more: it holds no more than eight.
 fn with_digit(number: u32, v: u8) -> u32 {
     number % 0x1000_0000 * 16 + (v % 16) as u32

@@ -18,7 +18,7 @@ fn written(byte: u8, sent: bool) -> u8 {
     if v == 16 {
         return byte;
     }
-    hex::digit(v)
+    text_out::hex_digit(v as u16)
 }
 
 // Puts each line of the first `n` bytes that begins with `>` in upper case, as it is written out again.

@@ -59,9 +59,9 @@ fn put_line(
     let t = step_at(chip, sheet, i);
     let kind = t.kind;
     let sent = frames_of(frames, i);
+    let sum = sum_of(sums, i);
     let status = report.status;
     if i < report.steps {
-        let sum = sum_of(sums, i);
         return put_step(buf, at, i + 1, kind, Status::Byte(0x06), sent, sum);
     }
     if report.steps < i {

@@ -30,15 +30,15 @@ returns c =
     let a = c .before .before .before .before .before .before .before .before .before .before .before .before .before .args in
     rw (
       c .before .before .put-step .ensures,
-      c .before .before .before .before .sum-of .ensures,
+      c .before .before .before .before .before .before .sum-of .ensures,
       c .before .before .before .before .before .before .before .frames-of .ensures,
       c .before .before .before .before .before .before .before .before .step-at .ensures,
-      line-finished (a .chip) (a .sheet .now) (a .report) (a .sums .now) (a .frames .now) (a .i) (c .before .before .before .before .before .if1 .taken),
+      line-finished (a .chip) (a .sheet .now) (a .report) (a .sums .now) (a .frames .now) (a .i) (c .before .before .before .before .if1 .taken),
     )
 
 returns-2 : tie.Need-returns-2
 returns-2 c =
-    let a = c .before .before .before .before .before .before .before .before .before .before .args in
+    let a = c .before .before .before .before .before .before .before .before .before .before .before .args in
     rw (line-none (a .chip) (a .sheet .now) (a .report) (a .sums .now) (a .frames .now) (a .i) (c .if2 .taken), add-none)
 
 is-stopped-requires : tie.Need-is-stopped-requires
@@ -55,7 +55,7 @@ same-length-2 c = search needs
 
 returns-3 : tie.Need-returns-3
 returns-3 c =
-    let d = c .before .before .before .before .before .before .before .before .before .before in
+    let d = c .before .before .before .before .before .before .before .before .before .before .before in
     let a = d .before .before .before .before .before .before .args in
     let last : a .i ≡ a .report .steps = omega arith in
     rw (
@@ -67,7 +67,7 @@ returns-3 c =
 
 returns-4 : tie.Need-returns-4
 returns-4 c =
-    let a = c .before .before .before .before .before .before .before .before .before .before .before .before .args in
+    let a = c .before .before .before .before .before .before .before .before .before .before .before .before .before .args in
     let last : a .i ≡ a .report .steps = omega arith in
     rw (line-not-begun (a .chip) (a .sheet .now) (a .report) (a .sums .now) (a .frames .now) (a .i) last (sym (c .before .is-stopped .ensures) ∙ c .if3 .left), add-none)
 

@@ -502,16 +502,17 @@ static struct step step_at(const u8 *s, size i)
 
 // ---- the player
 
-enum { NEW, READY, ERASED, OPENED, SUMMED, PAGES, PAGED, OVER };
+// READY is at the beginning of a step; from its first frame on the record keeps the step's kind.
+enum { NEW, READY, BLOCK, ERASED, OPENED, SUMMED, PAGES, PAGED, OVER };
 enum { L1 = 0x100 };
 
 struct player {
-    u8 stage;
+    u8 stage, kind;
     u16 status;
     u32 step, at, frames, pieces;
 };
 
-static const struct player new_player = {NEW, 0x06, 0, 0, 0, 0};
+static const struct player new_player = {NEW, 0, 0x06, 0, 0, 0, 0};
 
 static int framed(const u8 *r, size len, u8 n)
 {
@@ -569,7 +570,7 @@ static void absorb(const u8 *s, struct player *p, const u8 *reply, size n, u16 *
         else if (++p->at == t.blocks)
             finish(s, p, 0, sums);
         else
-            p->stage = READY;
+            p->stage = BLOCK;
         break;
     case OPENED:
         status = command_reply(reply, n);
@@ -589,7 +590,7 @@ static void absorb(const u8 *s, struct player *p, const u8 *reply, size n, u16 *
         status = data_reply(reply, n);
         t = step_at(s, p->step);
         if (status != 0x06)
-            stop(p, status, t.kind == WRITE && p->at > 0 ? p->at - 1 : 0);
+            stop(p, status, p->kind == WRITE && p->at > 0 ? p->at - 1 : 0);
         else if (++p->at == t.pages)
             finish(s, p, 0, sums);
         else
@@ -634,9 +635,10 @@ static size emit(const u8 *s, struct player *p, u8 *frame)
         p->frames++;
         return end_frame(frame, 0x02, PAGE, p->at + 1 == t.pages ? 0x03 : 0x17);
     }
-    if (p->stage != READY)
+    if (p->stage != READY && p->stage != BLOCK)
         return 0;
     t = step_at(s, p->step);
+    p->kind = t.kind;
     switch (t.kind) {
     case ERASE:
         frame[2] = 0x22;
@@ -713,26 +715,27 @@ size plain_engine(const u8 *bytes, size n, size start, size shown, u8 *held, u8 
 #endif
 
 #ifdef PLAYER
-// P2: an unfinished play whose step, block or page is not in the sheet.
+// P2: an unfinished play whose step, block or page is not in the sheet; a step of another kind than the one begun is not that step.
 static int lost(const u8 *s, const struct player *p)
 {
     if (p->stage == NEW || p->stage == OVER)
         return 0;
     if (p->step >= word_at(s))
         return 1;
+    if (p->stage == READY)
+        return 0;
     struct step t = step_at(s, p->step);
-    int pages = t.kind == WRITE || t.kind == VERIFY;
+    if (t.kind != p->kind)
+        return 1;
     switch (p->stage) {
-    case READY:
-        return t.kind == ERASE && p->at >= t.blocks;
+    case BLOCK:
     case ERASED:
-        return t.kind != ERASE || p->at >= t.blocks;
-    case OPENED:
-        return !pages;
-    case SUMMED:
-        return t.kind != SUM;
+        return p->at >= t.blocks;
+    case PAGES:
+    case PAGED:
+        return p->at >= t.pages;
     default:
-        return !pages || p->at >= t.pages;
+        return 0;
     }
 }
 

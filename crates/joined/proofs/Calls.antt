@@ -1,17 +1,17 @@
 -- The joined calls, outcome by outcome; and what is known where none is refused. Assumes nothing.
 use mathlib.Core.Path.{_≡_, refl, ap}
-use mathlib.Core.Bool.{true, false, _&&_, false≢true}
+use mathlib.Core.Bool.{true, false, false≢true}
 use mathlib.Core.List.{List}
 use Prim.Native.Nat.{ℕ, _+_, _≤_}
-use lib.Dec.{leb, eqb}
+use lib.Dec.{leb}
 use lib.ListN.{length}
-use borrow.Author.Tests.{eqb-true, leb-true}
+use borrow.Author.Tests.{leb-true}
 use Rattle.rules.specs.declared.Chip.{Chip}
 use Rattle.rules.specs.declared.Flash.the-variants.{Code, Data}
 use Rattle.rules.specs.declared.Player.{Player}
 use Rattle.rules.specs.declared.Refusal.{Refusal}
 use Rattle.rules.specs.declared.Stage.{Stage}
-use Rattle.rules.specs.declared.Stage.the-variants.{New, Ready, Erased, Opened, Summed, Page, Paged, Over}
+use Rattle.rules.specs.declared.Stage.the-variants.{New, Ready, Block, Commanded, Page, Paged, Over}
 use Rattle.rules.specs.declared.Verdict.the-variants.{Accepted}
 use Rattle.rules.specs.declared.Verdict.the-variants as v
 use Rattle.rules.specs.StandIn.{lentVerdict}
@@ -100,11 +100,10 @@ good chip s p j ok =
 ready : (g : Stage) → isReady g ≡ true → g ≡ Ready
 ready Ready e = refl
 ready New e = absurd (false≢true e)
-ready Erased e = absurd (false≢true e)
-ready Opened e = absurd (false≢true e)
-ready Summed e = absurd (false≢true e)
-ready Page e = absurd (false≢true e)
-ready Paged e = absurd (false≢true e)
+ready Block e = absurd (false≢true e)
+ready (Commanded k) e = absurd (false≢true e)
+ready (Page k) e = absurd (false≢true e)
+ready (Paged k) e = absurd (false≢true e)
 ready Over e = absurd (false≢true e)
 
 -- a step may start
@@ -117,17 +116,15 @@ starts chip s j sized ok b w =
     let g = good chip s (j .player) j ok in
     let p = j .player in
     let most = mostFrames (stepAt chip s (p .step)) in
-    let q = both (isReady (p .stage) && eqb (p .at) 0) (leb (p .frames + most) 0xFFFFFFFF) b in
-    let r = both (isReady (p .stage)) (eqb (p .at) 0) (q .0) in
-    let stage = ready (p .stage) (r .0) in
+    let q = both (isReady (p .stage)) (leb (p .frames + most) 0xFFFFFFFF) b in
+    let stage = ready (p .stage) (q .0) in
     record {
       rooms = g .rooms;
       sized = sized;
       begins =
           record {
             stage = stage;
-            at = eqb-true (p .at) 0 (r .1);
-            there = ready-stands chip s p (stepAt chip s (p .step)) refl (g .found) stage .0;
+            there = ready-stands chip s p (g .found) stage;
             counts = leb-true (p .frames + most) 0xFFFFFFFF (q .1);
             waiting = w;
             fit = g .fit;

@@ -12,7 +12,7 @@ use borrow.Author.Tests.{eq-eqb, ne-eqb}
 use Rattle.rules.specs.declared.Chip.{Chip}
 use Rattle.rules.specs.declared.Player.{Player}
 use Rattle.rules.specs.declared.Stage.{Stage}
-use Rattle.rules.specs.declared.Stage.the-variants.{New, Ready, Erased, Opened, Summed, Page, Paged, Over}
+use Rattle.rules.specs.declared.Stage.the-variants.{New, Ready, Block, Commanded, Page, Paged, Over}
 use Rattle.rules.specs.Sheet.{count, stepAt}
 use Rattle.rules.specs.StandIn.{State}
 use Rattle.rules.specs.Meaning.{Done, stepFramesFrom, stepFrames}
@@ -44,11 +44,10 @@ is-over : (g : Stage) → isOver g ≡ true → g ≡ Over
 is-over Over e = refl
 is-over New e = absurd (false≢true e)
 is-over Ready e = absurd (false≢true e)
-is-over Erased e = absurd (false≢true e)
-is-over Opened e = absurd (false≢true e)
-is-over Summed e = absurd (false≢true e)
-is-over Page e = absurd (false≢true e)
-is-over Paged e = absurd (false≢true e)
+is-over Block e = absurd (false≢true e)
+is-over (Commanded k) e = absurd (false≢true e)
+is-over (Page k) e = absurd (false≢true e)
+is-over (Paged k) e = absurd (false≢true e)
 
 -- the frames of each step, from the step that begins here: where none is left, and with this one done or stopped
 module _ (chip : Chip) (s : List ℕ) (i : ℕ) (each : List ℕ) (j : Joined) where

@@ -6,7 +6,7 @@ use mathlib.Core.List.{List}
 use lib.ListN.{length}
 use Rattle.rules.specs.declared.Chip.{Chip}
 use Rattle.rules.specs.declared.Stage.{Stage}
-use Rattle.rules.specs.declared.Stage.the-variants.{New, Ready, Erased, Opened, Summed, Page, Paged, Over}
+use Rattle.rules.specs.declared.Stage.the-variants.{New, Ready, Block, Commanded, Page, Paged, Over}
 use Rattle.rules.specs.declared.Verdict.{Verdict}
 use Rattle.rules.specs.declared.Verdict.the-variants as verdict
 use Rattle.rules.specs.Meaning.{stepFrames}
@@ -22,11 +22,10 @@ use Rattle.joined.specs.declared.Answer.the-variants.{Refused, NotAtStep
 abbrev pub isOver : Stage → Bool
 isOver New = false
 isOver Ready = false
-isOver Erased = false
-isOver Opened = false
-isOver Summed = false
-isOver Page = false
-isOver Paged = false
+isOver Block = false
+isOver (Commanded k) = false
+isOver (Page k) = false
+isOver (Paged k) = false
 isOver Over = true
 
 -- the answer, and player, stand-in and all that is lent after the call

@@ -29,11 +29,10 @@ pub fn is_over(p: Player) -> bool
     match stage {
         Stage::New => false,
         Stage::Ready => false,
-        Stage::Erased => false,
-        Stage::Opened => false,
-        Stage::Summed => false,
-        Stage::Page => false,
-        Stage::Paged => false,
+        Stage::Block => false,
+        Stage::Commanded(_) => false,
+        Stage::Page(_) => false,
+        Stage::Paged(_) => false,
         Stage::Over => true,
     }
 }

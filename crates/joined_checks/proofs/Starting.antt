@@ -5,7 +5,7 @@ use mathlib.Core.List.{List}
 use Prim.Native.Nat.{ℕ, _+_, _-_, _≤_}
 use native.Mathlib.Omega.{arith}
 use lib.Dec.{leb}
-use borrow.Author.Tests.{eq-eqb, ne-eqb, le-leb, lt-leb, leb-true, leb-false}
+use borrow.Author.Tests.{le-leb, lt-leb, leb-true, leb-false}
 use Rattle.rules.specs.declared.Chip.{Chip}
 use Rattle.rules.specs.declared.Player.{Player}
 use Rattle.rules.specs.Sheet.{stepAt}
@@ -25,12 +25,7 @@ module _ (chip : Chip) (s : List ℕ) (p : Player) where
   unfolding startsStep
   not-ready e = rw e
 
-  module _ (ready : isReady (p .stage) ≡ true) where
-    pub not-at-0 : (p .at ≡ 0 → ⊥) → startsStep chip s p ≡ false
-    unfolding startsStep
-    not-at-0 n = rw (ready, ne-eqb (p .at) 0 n)
-
-    pub by-frames : p .at ≡ 0 → (most : ℕ) → most ≡ mostFrames (stepAt chip s (p .step)) → most ≤ 524289
-        → leb (p .frames) (0xFFFFFFFF - most) ≡ startsStep chip s p
-    unfolding startsStep
-    by-frames z most e h = rw (ready, eq-eqb (p .at) 0 z, ← e) (room-left (p .frames) most h)
+  pub by-frames : isReady (p .stage) ≡ true → (most : ℕ) → most ≡ mostFrames (stepAt chip s (p .step)) → most ≤ 524289
+      → leb (p .frames) (0xFFFFFFFF - most) ≡ startsStep chip s p
+  unfolding startsStep
+  by-frames ready most e h = rw (ready, ← e) (room-left (p .frames) most h)

@@ -2,13 +2,13 @@
 use Prim.Native.Nat.{ℕ, _+_}
 use mathlib.Core.Bool.{Bool, true, false, _&&_}
 use mathlib.Core.List.{List}
-use lib.Dec.{leb, eqb}
+use lib.Dec.{leb}
 use Rattle.rules.specs.declared.Chip.{Chip}
 use Rattle.rules.specs.declared.Phase.{Phase}
 use Rattle.rules.specs.declared.Phase.the-variants.{Mode, Speed, Ident, Command, Silent}
 use Rattle.rules.specs.declared.Player.{Player}
 use Rattle.rules.specs.declared.Stage.{Stage}
-use Rattle.rules.specs.declared.Stage.the-variants.{New, Ready, Erased, Opened, Summed, Page, Paged, Over}
+use Rattle.rules.specs.declared.Stage.the-variants.{New, Ready, Block, Commanded, Page, Paged, Over}
 use Rattle.rules.specs.declared.Task.{Task}
 use Rattle.rules.specs.declared.Task.the-variants.{Idle, Programming, Verifying}
 use Rattle.rules.specs.declared.Verdict.{Verdict}
@@ -29,16 +29,15 @@ joinedVerdict chip s p l =
 abbrev pub isReady : Stage → Bool
 isReady New = false
 isReady Ready = true
-isReady Erased = false
-isReady Opened = false
-isReady Summed = false
-isReady Page = false
-isReady Paged = false
+isReady Block = false
+isReady (Commanded k) = false
+isReady (Page k) = false
+isReady (Paged k) = false
 isReady Over = false
 
 unfoldable pub startsStep : Chip → List ℕ → Player → Bool
 startsStep chip s p =
-    isReady (p .stage) && eqb (p .at) 0 && leb (p .frames + mostFrames (stepAt chip s (p .step))) 0xFFFFFFFF
+    isReady (p .stage) && leb (p .frames + mostFrames (stepAt chip s (p .step))) 0xFFFFFFFF
 
 abbrev pub isCommand : Phase → Bool
 isCommand Mode = false

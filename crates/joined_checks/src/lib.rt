@@ -50,11 +50,10 @@ fn is_ready(stage: Stage) -> bool
     match stage {
         Stage::New => false,
         Stage::Ready => true,
-        Stage::Erased => false,
-        Stage::Opened => false,
-        Stage::Summed => false,
-        Stage::Page => false,
-        Stage::Paged => false,
+        Stage::Block => false,
+        Stage::Commanded(_) => false,
+        Stage::Page(_) => false,
+        Stage::Paged(_) => false,
         Stage::Over => false,
     }
 }
@@ -65,9 +64,6 @@ pub fn starts_step(chip: Chip, sheet: &[u8], p: Player) -> bool
 {
     let stage = p.stage;
     if !is_ready(stage) {
-        return false;
-    }
-    if p.at != 0 {
         return false;
     }
     let most = most_frames(step_at(chip, sheet, p.step));

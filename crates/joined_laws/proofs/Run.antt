@@ -107,7 +107,6 @@ module _ (chip : Chip) (s : List ℕ) where
     begins =
         record {
           stage = rw (ne-eqb i (count s) (omega (arith, b .all)));
-          at = refl;
           there = omega (arith, b .all);
           counts = omega (arith, b .counts);
           waiting = b .settled;

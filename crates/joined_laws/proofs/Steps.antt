@@ -15,8 +15,7 @@ use Rattle.rules.specs.declared.Step.{Step}
 use Rattle.rules.specs.declared.Verdict.the-variants.{Accepted}
 use Rattle.rules.specs.Chip.{Memory}
 use Rattle.rules.specs.StandIn.{State, rest}
-use Rattle.rules.specs.Sheet.{verdict, stepAt, stepBlocks}
-use Rattle.rules.specs.Meaning.{eraseFrom, eraseDone}
+use Rattle.rules.specs.Sheet.{verdict, stepAt}
 use Rattle.rules.specs.Player.{emitted}
 use Rattle.rules.specs.Run.{clean, Joined, turned, ran, none, runFrom, stepFrom, mostFor, mostFrames, stepRun, waits}
 use Rattle.sheet.proofs.Accepted.{Sound, sound}
@@ -62,13 +61,12 @@ module _ (chip : Chip) (sized : Sized chip) (s : List ℕ) (room : ℕ) (ok : ve
   some-for Sum = omega arith
 
   begun : Begun chip s i (j .player .frames) o (j .sums) (stepLeaves o s t m) (j .player) (j .state .task) m
-  begun = record { stage = b .stage; at = b .at; frames = refl; waiting = waiting }
+  begun = record { stage = b .stage; frames = refl; waiting = waiting }
 
   begin-at : (x : Kind) → t .kind ≡ x → At chip s i (j .player .frames) o (j .sums) (stepLeaves o s t m) (mostFor x t) (j .player) (j .state .task) m
   unfolding mostFor
   begin-at Erase k =
-      AtBlock k (b .stage) waiting (omega (arith, b .at)) (omega (arith, b .at))
-      (ap (λ d. leaves d o) (erase-means o s t m k ∙ ap (λ (a : ℕ). eraseDone (eraseFrom o t m a (stepBlocks t))) (sym (b .at))))
+      AtBlock k 0 (inl (b .stage, refl)) waiting (omega arith) (omega arith) (ap (λ d. leaves d o) (erase-means o s t m k))
   begin-at Write k = AtOpen (inl k) begun refl refl
   begin-at Verify k = AtOpen (inr k) begun refl refl
   begin-at Sum k =

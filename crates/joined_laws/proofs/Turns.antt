@@ -11,13 +11,15 @@ use lib.ListN.{length}
 use borrow.Author.Tests.{eqb-true, eqb-false, lt-ltb, le-leb, eq-eqb, ne-eqb}
 use Rattle.rules.specs.declared.Block.{Block}
 use Rattle.rules.specs.declared.Chip.{Chip}
+use Rattle.rules.specs.declared.Kind.{Kind}
 use Rattle.rules.specs.declared.Kind.the-variants.{Erase, Write, Verify, Sum}
 use Rattle.rules.specs.declared.Options.{Options}
 use Rattle.rules.specs.declared.Pages.{Pages}
 use Rattle.rules.specs.declared.Phase.the-variants.{Command}
 use Rattle.rules.specs.declared.Player.{Player}
 use Rattle.rules.specs.declared.Stage.{Stage}
-use Rattle.rules.specs.declared.Stage.the-variants.{Ready, Erased, Opened, Summed, Page, Paged, Over}
+use Rattle.rules.specs.declared.Stage.the-variants.{Ready, Commanded, Page, Paged, Over}
+use Rattle.rules.specs.declared.Stage.the-variants as stages
 use Rattle.rules.specs.declared.Status.the-variants.{Byte}
 use Rattle.rules.specs.declared.Step.{Step}
 use Rattle.rules.specs.declared.Task.{Task}
@@ -29,12 +31,12 @@ use Rattle.rules.specs.Frame.{dataStart, lastEnd, endDue, lenByte, sumByte, fra
 use Rattle.rules.specs.StandIn.{State, Out, out, rest, startOf, taskNow, later, pageGuarded, ahead}
 use Rattle.rules.specs.Sheet.{count, verdict, stepAt, stepBlocks, stepPages, bodyPage}
 use Rattle.rules.specs.Meaning.{eraseFrom, done, eraseDone}
-use Rattle.rules.specs.Player.{player, well, Absorbed, stopped, goesOn, finished, pagesSure, absorbed, Sent, counted, sends, emitted, reportOf, reportBy, command, pairCommand, blockCommand, lost}
+use Rattle.rules.specs.Player.{player, well, Absorbed, stopped, goesOn, finished, pagesSure, absorbed, Sent, counted, sends, emitted, reportOf, reportBy, command, pairCommand, blockCommand, firstCommand, lost}
 use Rattle.rules.specs.Run.{Line, clean, Joined, joining, carried, takenIn, turned, betweenIn, between, waits}
 use Rattle.chip_finder.proofs.Geometry.{blocks-in-pages, in-pages}
 use Rattle.sheet.proofs.Accepted.{Sound, Inside, sound, page-length}
-use Rattle.player_laws.proofs.Moves.{absorb-opened, absorb-sum, absorb-erase-stop, absorb-erase-on, absorb-erase-last, absorb-page-stop, absorb-page-on, absorb-page-last, emit-erase, emit-write, emit-verify, emit-sum, emit-page}
-use Rattle.player_laws.proofs.PlaceInSheet.{paging-write, paging-verify, stands-ready, stands-first, stands-page}
+use Rattle.player_laws.proofs.Moves.{absorb-opened, absorb-sum, absorb-erase-stop, absorb-erase-on, absorb-erase-last, absorb-page-stop, absorb-page-on, absorb-page-last, emit-first, emit-block, emit-page}
+use Rattle.player_laws.proofs.PlaceInSheet.{stands-ready, stands-block, stands-page}
 use Rattle.player_laws.proofs.Replies.{command-one, data-well, sum-reply, sum-in}
 use Rattle.joined_laws.specs.Hears.{hears, pagesFor}
 use Rattle.joined_laws.specs.Turns.{Sized, Fit, mostCounted, Framed, pagesAt, writeOn, verifyOn, Leaves, leaves, stepLeaves, Left, StepEnds}
@@ -82,14 +84,18 @@ below xs = omega arith
 
 -- ---- the states of a step between two turns ----
 
+-- about to send the erase of block a: the first at the beginning of the step, and each later one
+abbrev pub ErasesNext : Player → ℕ → Type 0
+ErasesNext p a = ((p .stage ≡ Ready) × (a ≡ 0)) ⊎ ((p .stage ≡ stages.Block) × (a ≡ p .at))
+
 -- step i, begun after n frames with those options and that list of sums, leaves e
 module _ (chip : Chip) (s : List ℕ) (i n : ℕ) (o : Options) (sums : List ℕ) (e : Leaves) where
   abbrev now : Step
   now = stepAt chip s i
 
-  -- a player that has sent a frame, and awaits its answer
-  abbrev awaiting : Stage → Player → Player
-  awaiting g p = player g i (p .at) (p .frames + 1) (p .pieces) (p .status)
+  -- a player that has sent a frame, at that block or page, and awaits its answer
+  abbrev awaiting : Stage → Player → ℕ → Player
+  awaiting g p a = player g i a (p .frames + 1) (p .pieces) (p .status)
 
   -- THE END: what the stand-in makes of the last frame is what the step leaves, and the player takes the answer in so
   pub record Told (p : Player) (h : Out) : Type 0 where
@@ -111,7 +117,6 @@ module _ (chip : Chip) (s : List ℕ) (i n : ℕ) (o : Options) (sums : List ℕ
   -- at the beginning of a step: the player is about to send a command, and the stand-in waits for one
   pub record Begun (p : Player) (task : Task) (m : Memory) : Type 0 where
     pub stage : p .stage ≡ Ready
-    pub at : p .at ≡ 0
     pub frames : p .frames ≡ n
     pub waiting : waits chip (rest Command task o m) ≡ true
 
@@ -121,8 +126,8 @@ module _ (chip : Chip) (s : List ℕ) (i n : ℕ) (o : Options) (sums : List ℕ
     pub code : ℕ
     pub info : List ℕ
     pub few : length info ≤ 254
-    pub sent : emitted chip s p ≡ sends stage p (command (code ∷ info))
-    pub told : Told (awaiting stage p) (hears chip stand (command (code ∷ info)))
+    pub sent : emitted chip s p ≡ sends stage p 0 (command (code ∷ info))
+    pub told : Told (awaiting stage p 0) (hears chip stand (command (code ∷ info)))
 
   -- a step that goes page by page, at page a with so many left: task begun, and what it comes to from here
   pub data Paging (a left : ℕ) (task : Task) (m : Memory) : Type 0 where
@@ -133,11 +138,11 @@ module _ (chip : Chip) (s : List ℕ) (i n : ℕ) (o : Options) (sums : List ℕ
 
   -- what the player is about to send: a block's erase, a command that opens pages, the one frame of a step, or a page; at most k frames are left
   pub data At (k : ℕ) (p : Player) (task : Task) (m : Memory) : Type 0 where
-    AtBlock : now .kind ≡ Erase → p .stage ≡ Ready → waits chip (rest Command task o m) ≡ true → p .at + k ≡ stepBlocks now
-        → p .frames ≡ n + p .at → e ≡ leaves (eraseDone (eraseFrom o now m (p .at) k)) o → At k p task m
+    AtBlock : now .kind ≡ Erase → (a : ℕ) → ErasesNext p a → waits chip (rest Command task o m) ≡ true → a + k ≡ stepBlocks now
+        → p .frames ≡ n + a → e ≡ leaves (eraseDone (eraseFrom o now m a k)) o → At k p task m
     AtOpen : (now .kind ≡ Write) ⊎ (now .kind ≡ Verify) → Begun p task m → k ≡ 1 + stepPages now → e ≡ stepLeaves o s now m → At k p task m
     AtOnce : Begun p task m → k ≡ 1 → Once p (rest Command task o m) → At k p task m
-    AtPage : p .stage ≡ Page → p .at + k ≡ stepPages now → p .frames ≡ n + 1 + p .at → Paging (p .at) k task m → At k p task m
+    AtPage : p .stage ≡ Page (now .kind) → p .at + k ≡ stepPages now → p .frames ≡ n + 1 + p .at → Paging (p .at) k task m → At k p task m
 
   -- A STATE BETWEEN TWO TURNS, with at most k of them left
   pub record Mid (k : ℕ) (j : Joined) : Type 0 where
@@ -159,17 +164,18 @@ module _ (chip : Chip) (s : List ℕ) (i n : ℕ) (o : Options) (sums : List ℕ
 
   pub sum-once : Sized chip → Sound chip s i now → now .kind ≡ Sum → (p : Player) → p .step ≡ i → (task : Task) (m : Memory) → Fit chip m
       → Begun p task m → e ≡ stepLeaves o s now m → Once p (rest Command task o m)
+  unfolding firstCommand
   sum-once sized fact kind p here task m fit b q =
       let bytes = bytesFrom m (now .flash) (now .first) (now .last) in
       let sum = checksum bytes in
       let answer = one 0x06 ++ frame dataStart lastEnd (wordBytes sum) in
-      let a = awaiting Summed p in
+      let a = awaiting (Commanded Sum) p 0 in
       record {
-        stage = Summed;
+        stage = Commanded Sum;
         code = 0xB0;
         info = addressBytes (firstByte (now .flash) (now .first)) ++ addressBytes (lastByte (now .flash) (now .last));
         few = omega arith;
-        sent = emit-sum chip s p now (ap (stepAt chip s) here) (b .stage) kind;
+        sent = emit-first chip s p now (ap (stepAt chip s) here) (b .stage) kind;
         told =
             told-waiting a _ m answer (hears-sum chip sized (rest Command task o m) (b .waiting) now (fact .forward) (fact .there)) fit 0x06 0 1 sum
             (q ∙ ap (λ d. leaves d o) (sum-means o s now m kind))
@@ -197,6 +203,25 @@ module _ (chip : Chip) (s : List ℕ) (i n : ℕ) (o : Options) (sums : List ℕ
 
     -- ---- what is sent ----
 
+    -- the erase of a block
+    block-sent : now .kind ≡ Erase → (a : ℕ) → ErasesNext p a → emitted chip s p ≡ sends (Commanded Erase) p a (blockCommand now a)
+    unfolding firstCommand
+    block-sent kind a (inl g) = emit-first chip s p now here (g .0) kind ∙ rw (g .1)
+    block-sent kind a (inr g) = emit-block chip s p now here (g .0) ∙ rw (g .1)
+
+    -- the command of a write or a verify
+    first-sent : p .stage ≡ Ready → {c : Kind} → now .kind ≡ c → emitted chip s p ≡ sends (Commanded (now .kind)) p 0 (firstCommand c now)
+    first-sent g kind =
+        emit-first chip s p now here g refl ∙ ap (λ (c : Kind). sends (Commanded (now .kind)) p 0 (firstCommand c now)) kind
+
+    write-sent : p .stage ≡ Ready → now .kind ≡ Write → emitted chip s p ≡ sends (Commanded (now .kind)) p 0 (pairCommand 0x40 now)
+    unfolding firstCommand
+    write-sent g kind = first-sent g kind
+
+    verify-sent : p .stage ≡ Ready → now .kind ≡ Verify → emitted chip s p ≡ sends (Commanded (now .kind)) p 0 (pairCommand 0x13 now)
+    unfolding firstCommand
+    verify-sent g kind = first-sent g kind
+
     -- a page: its frame says whether it is the last, and the stand-in awaits it
     abbrev body : List ℕ
     body = bodyPage s now (p .at)
@@ -204,10 +229,10 @@ module _ (chip : Chip) (s : List ℕ) (i n : ℕ) (o : Options) (sums : List ℕ
     abbrev page : List ℕ
     page = frame dataStart (endDue (eqb k 1)) body
 
-    page-sent : p .stage ≡ Page → p .at + k ≡ stepPages now → emitted chip s p ≡ sends Paged p page
+    page-sent : p .stage ≡ Page (now .kind) → p .at + k ≡ stepPages now → emitted chip s p ≡ sends (Paged (now .kind)) p (p .at) page
     page-sent stage z =
         emit-page chip s p now here stage
-        ∙ ap (λ (b : Bool). sends Paged p (frame dataStart (endDue b) body)) (last-page (p .at) k (stepPages now) z)
+        ∙ ap (λ (b : Bool). sends (Paged (now .kind)) p (p .at) (frame dataStart (endDue b) body)) (last-page (p .at) k (stepPages now) z)
 
     page-sized : p .at + k ≡ stepPages now → Inside s now → length body ≡ pageSize
     page-sized z inside = page-length s now inside (p .at) (omega arith)
@@ -218,10 +243,10 @@ module _ (chip : Chip) (s : List ℕ) (i n : ℕ) (o : Options) (sums : List ℕ
         rw (lt-ltb 0 k (mid .some), le-leb (firstPage (now .flash) (now .first) + p .at + k) (pages chip (now .flash)) (omega arith))
 
     -- any frame
-    framed : (g : Stage) (task : Task) (end : ℕ) (body : List ℕ) → emitted chip s p ≡ sends g p (frame (startOf task) end body)
+    framed : (g : Stage) (a : ℕ) (task : Task) (end : ℕ) (body : List ℕ) → emitted chip s p ≡ sends g p a (frame (startOf task) end body)
         → taskNow chip Command (j .state .task) ≡ task → 1 ≤ length body → length body ≤ 256 → Framed chip s j
     unfolding frame
-    framed g task end body sent awaited low high =
+    framed g a task end body sent awaited low high =
         let phase : j .state .phase ≡ Command = ap (λ (x : State). x .phase) (mid .state) in
         let task-now : taskNow chip (j .state .phase) (j .state .task) ≡ task = rw phase awaited in
         record {
@@ -234,25 +259,24 @@ module _ (chip : Chip) (s : List ℕ) (i n : ℕ) (o : Options) (sums : List ℕ
         }
 
     -- a command, and a page
-    commanded : (g : Stage) (body : List ℕ) → emitted chip s p ≡ sends g p (command body) → waits chip stand ≡ true
+    commanded : (g : Stage) (a : ℕ) (body : List ℕ) → emitted chip s p ≡ sends g p a (command body) → waits chip stand ≡ true
         → 1 ≤ length body → length body ≤ 256 → Framed chip s j
-    commanded g body sent w low high = framed g Idle lastEnd body sent (waiting-task chip stand w) low high
+    commanded g a body sent w low high = framed g a Idle lastEnd body sent (waiting-task chip stand w) low high
 
-    paged : (task : Task) → startOf task ≡ dataStart → p .stage ≡ Page → p .at + k ≡ stepPages now → taskNow chip Command (j .state .task) ≡ task
+    paged : (task : Task) → startOf task ≡ dataStart → p .stage ≡ Page (now .kind) → p .at + k ≡ stepPages now → taskNow chip Command (j .state .task) ≡ task
         → Inside s now → Framed chip s j
     paged task starts stage z awaited inside =
         let l = page-sized z inside in
-        framed Paged task (endDue (eqb k 1)) body (rw starts (page-sent stage z)) awaited (omega arith) (omega arith)
+        framed (Paged (now .kind)) (p .at) task (endDue (eqb k 1)) body (rw starts (page-sent stage z)) awaited (omega arith) (omega arith)
 
     frame-at : At k p (j .state .task) m → Framed chip s j
     unfolding taskNow
-    frame-at (AtBlock kind stage w z f q) =
-        commanded Erased _ (emit-erase chip s p now here stage kind) w (omega arith) (omega arith)
+    frame-at (AtBlock kind a at w z f q) = commanded (Commanded Erase) a _ (block-sent kind a at) w (omega arith) (omega arith)
     frame-at (AtOpen (inl kind) b z q) =
-        commanded Opened _ (emit-write chip s p now here (b .stage) kind) (b .waiting) (omega arith) (omega arith)
+        commanded (Commanded (now .kind)) 0 _ (write-sent (b .stage) kind) (b .waiting) (omega arith) (omega arith)
     frame-at (AtOpen (inr kind) b z q) =
-        commanded Opened _ (emit-verify chip s p now here (b .stage) kind) (b .waiting) (omega arith) (omega arith)
-    frame-at (AtOnce b z x) = commanded (x .stage) (x .code ∷ x .info) (x .sent) (b .waiting) (omega arith) (omega (arith, x .few))
+        commanded (Commanded (now .kind)) 0 _ (verify-sent (b .stage) kind) (b .waiting) (omega arith) (omega arith)
+    frame-at (AtOnce b z x) = commanded (x .stage) 0 (x .code ∷ x .info) (x .sent) (b .waiting) (omega arith) (omega (arith, x .few))
     frame-at (AtPage stage z f (Writing st kind task low q)) =
         paged (Programming (pagesAt now (p .at) k st)) refl stage z (rw (task, page-ahead z st)) (fact .write kind)
     frame-at (AtPage stage z f (Comparing st kind task q)) =
@@ -263,16 +287,17 @@ module _ (chip : Chip) (s : List ℕ) (i n : ℕ) (o : Options) (sums : List ℕ
     in-sheet = omega (arith, mid .there, mid .step)
 
     begun-found : Begun p (j .state .task) m → lost chip s p ≡ false
-    begun-found b = stands-first chip s p now here in-sheet (b .stage) (omega (arith, b .at, fact .some))
+    begun-found b = stands-ready chip s p in-sheet (b .stage)
 
     found-at : At k p (j .state .task) m → lost chip s p ≡ false
-    found-at (AtBlock kind stage w z f q) = stands-ready chip s p now here in-sheet stage kind (omega (arith, mid .some))
+    found-at (AtBlock kind a (inl g) w z f q) = stands-ready chip s p in-sheet (g .0)
+    found-at (AtBlock kind a (inr g) w z f q) = stands-block chip s p now here in-sheet (g .0) kind (omega (arith, mid .some, g .1))
     found-at (AtOpen kind b z q) = begun-found b
     found-at (AtOnce b z x) = begun-found b
     found-at (AtPage stage z f (Writing st kind task low q)) =
-        stands-page chip s p now here in-sheet stage (paging-write kind) (omega (arith, mid .some))
+        stands-page chip s p now here in-sheet refl stage (inl kind) (omega (arith, mid .some))
     found-at (AtPage stage z f (Comparing st kind task q)) =
-        stands-page chip s p now here in-sheet stage (paging-verify kind) (omega (arith, mid .some))
+        stands-page chip s p now here in-sheet refl stage (inr kind) (omega (arith, mid .some))
 
     -- ---- what comes of it ----
 
@@ -281,9 +306,9 @@ module _ (chip : Chip) (s : List ℕ) (i n : ℕ) (o : Options) (sums : List ℕ
       Outcome = Turned k j (turned clean chip s c j)
 
       -- the player sends a frame
-      module _ (g : Stage) (bytes : List ℕ) (sent : emitted chip s p ≡ sends g p bytes) where
+      module _ (g : Stage) (a : ℕ) (bytes : List ℕ) (sent : emitted chip s p ≡ sends g p a bytes) where
         abbrev after : Player
-        after = awaiting g p
+        after = awaiting g p a
 
         abbrev sends-so : Sent
         sends-so = record { player = after; bytes = bytes }
@@ -305,12 +330,12 @@ module _ (chip : Chip) (s : List ℕ) (i n : ℕ) (o : Options) (sums : List ℕ
 
         -- the step goes on
         goes : (task : Task) (m' : Memory) (answer : List ℕ) → Fit chip m' → hears chip stand bytes ≡ out (rest Command task o m') answer
-            → (g' : Stage) (a : ℕ) → absorbed chip s after answer sums ≡ goesOn g' after a sums → betweenIn g' a ≡ false
-            → (more : ℕ) → k ≡ suc more → 0 < more → At more (player g' i a (p .frames + 1) 0 well) task m' → Outcome
+            → (g' : Stage) (b : ℕ) → absorbed chip s after answer sums ≡ goesOn g' after b sums → betweenIn g' ≡ false
+            → (more : ℕ) → k ≡ suc more → 0 < more → At more (player g' i b (p .frames + 1) 0 well) task m' → Outcome
         unfolding between
-        goes task m' answer fit arrived g' a took b more z low at =
-            rw (turn-to (out (rest Command task o m') answer) arrived (goesOn g' after a sums) took)
-            (Goes b refl more z
+        goes task m' answer fit arrived g' b took within more z low at =
+            rw (turn-to (out (rest Command task o m') answer) arrived (goesOn g' after b sums) took)
+            (Goes within refl more z
             (record {
               some = low;
               there = mid .there;
@@ -327,7 +352,7 @@ module _ (chip : Chip) (s : List ℕ) (i n : ℕ) (o : Options) (sums : List ℕ
         unfolding between betweenIn finished reportOf reportBy
         ends t = go (eqb (e .done .status) 0x06) refl
           where
-            starts : (b : Bool) → betweenIn (cond b Over Ready) 0 ≡ true
+            starts : (b : Bool) → betweenIn (cond b Over Ready) ≡ true
             starts true = refl
             starts false = refl
 
@@ -352,25 +377,25 @@ module _ (chip : Chip) (s : List ℕ) (i n : ℕ) (o : Options) (sums : List ℕ
                 }))
 
       -- the erase of a block
-      module _ (kind : now .kind ≡ Erase) (stage : p .stage ≡ Ready) (w : waits chip stand ≡ true)
-          (z : p .at + k ≡ stepBlocks now) (f : p .frames ≡ n + p .at) (q : e ≡ leaves (eraseDone (eraseFrom o now m (p .at) k)) o) where
+      module _ (kind : now .kind ≡ Erase) (a : ℕ) (at : ErasesNext p a) (w : waits chip stand ≡ true)
+          (z : a + k ≡ stepBlocks now) (f : p .frames ≡ n + a) (q : e ≡ leaves (eraseDone (eraseFrom o now m a k)) o) where
         abbrev b : Block
-        b = block (now .first .0 + p .at)
+        b = block (now .first .0 + a)
 
         inside : b .0 < blocks chip (now .flash)
         inside = omega (arith, fact .there, fact .forward)
 
-        block-sent : emitted chip s p ≡ sends Erased p (blockCommand now (p .at))
-        block-sent = emit-erase chip s p now here stage kind
+        sent-block : emitted chip s p ≡ sends (Commanded Erase) p a (blockCommand now a)
+        sent-block = block-sent kind a at
 
         abbrev sender : Player
-        sender = awaiting Erased p
+        sender = awaiting (Commanded Erase) p a
 
         block-stops : (left : ℕ) → k ≡ suc left → eraseProtected o (now .flash) b ≡ true → Outcome
         block-stops left y h =
-            ends Erased (blockCommand now (p .at)) block-sent
-            (told-waiting sender _ m (one 0x10) (hears-erase-guarded chip sized stand w (now .flash) b inside h) (mid .fit) 0x10 (p .at) (p .at + 1) 0
-            ((rw y at q) ∙ ap (λ d. leaves d o) (erase-stops o now m (p .at) left h))
+            ends (Commanded Erase) a (blockCommand now a) sent-block
+            (told-waiting sender _ m (one 0x10) (hears-erase-guarded chip sized stand w (now .flash) b inside h) (mid .fit) 0x10 a (a + 1) 0
+            ((rw y at q) ∙ ap (λ d. leaves d o) (erase-stops o now m a left h))
             (omega arith)
             (absorb-erase-stop chip s sender (one 0x10) sums refl (rw (command-one 0x10)) ∙ rw (command-one 0x10)))
 
@@ -382,26 +407,26 @@ module _ (chip : Chip) (s : List ℕ) (i n : ℕ) (o : Options) (sums : List ℕ
           kept : Fit chip blank-there
           kept = fit-erased chip m (mid .fit) (now .flash) b inside
 
-          erased : hears chip stand (blockCommand now (p .at)) ≡ out (rest Command Idle o blank-there) (one 0x06)
+          erased : hears chip stand (blockCommand now a) ≡ out (rest Command Idle o blank-there) (one 0x06)
           erased = hears-erase-free chip sized stand w (now .flash) b inside h
 
           block-last : k ≡ 1 → Outcome
           block-last y =
-              ends Erased (blockCommand now (p .at)) block-sent
-              (told-waiting sender _ blank-there (one 0x06) erased kept 0x06 0 (p .at + 1) 0
-              ((rw y at q) ∙ ap (λ d. leaves d o) (erase-last o now m (p .at) h))
+              ends (Commanded Erase) a (blockCommand now a) sent-block
+              (told-waiting sender _ blank-there (one 0x06) erased kept 0x06 0 (a + 1) 0
+              ((rw y at q) ∙ ap (λ d. leaves d o) (erase-last o now m a h))
               (omega arith)
               (absorb-erase-last chip s sender (one 0x06) sums refl now refl (command-one 0x06) (omega arith)))
 
           block-on : (left : ℕ) → k ≡ suc (suc left) → Outcome
           unfolding betweenIn
           block-on left y =
-              goes Erased (blockCommand now (p .at)) block-sent Idle blank-there (one 0x06) kept erased Ready (p .at + 1)
+              goes (Commanded Erase) a (blockCommand now a) sent-block Idle blank-there (one 0x06) kept erased stages.Block (a + 1)
               (absorb-erase-on chip s sender (one 0x06) sums refl now refl (command-one 0x06) (omega arith))
-              (ne-eqb (p .at + 1) 0 (omega arith))
+              refl
               (suc left) y (omega arith)
-              (AtBlock kind refl (rest-waits chip o blank-there) (omega arith) (omega arith)
-              ((rw y at q) ∙ ap (λ w. leaves (eraseDone w) o) (erase-on o now m (p .at) (suc left) h)))
+              (AtBlock kind (a + 1) (inr (refl, refl)) (rest-waits chip o blank-there) (omega arith) (omega arith)
+              ((rw y at q) ∙ ap (λ w. leaves (eraseDone w) o) (erase-on o now m a (suc left) h)))
 
         block-turn : Outcome
         block-turn = go (eraseProtected o (now .flash) b) refl k refl
@@ -414,20 +439,21 @@ module _ (chip : Chip) (s : List ℕ) (i n : ℕ) (o : Options) (sums : List ℕ
 
       -- the command that opens the pages of a write or a verify
       module _ (b : Begun p (j .state .task) m) (z : k ≡ 1 + stepPages now) (q : e ≡ stepLeaves o s now m) where
-        opens : (bytes : List ℕ) → emitted chip s p ≡ sends Opened p bytes → (task : Task)
+        opens : (now .kind ≡ Write) ⊎ (now .kind ≡ Verify) → (bytes : List ℕ) → emitted chip s p ≡ sends (Commanded (now .kind)) p 0 bytes
+            → (task : Task)
             → hears chip stand bytes ≡ out (rest Command task o m) (one 0x06)
             → Paging 0 (stepPages now) task m → Outcome
         unfolding betweenIn
-        opens bytes sent task arrived paging =
-            goes Opened bytes sent task m (one 0x06) (mid .fit) arrived Page 0
-            (absorb-opened chip s (awaiting Opened p) (one 0x06) sums refl (command-one 0x06))
+        opens kind bytes sent task arrived paging =
+            goes (Commanded (now .kind)) 0 bytes sent task m (one 0x06) (mid .fit) arrived (Page (now .kind)) 0
+            (absorb-opened chip s (awaiting (Commanded (now .kind)) p 0) (one 0x06) sums refl kind (command-one 0x06))
             refl
             (stepPages now) (omega arith) (step-some chip s i now fact)
             (AtPage refl (omega arith) (omega (arith, b .frames)) paging)
 
         write-opens : now .kind ≡ Write → Outcome
         write-opens kind =
-            opens (pairCommand 0x40 now) (emit-write chip s p now here (b .stage) kind) (Programming (pagesFor now))
+            opens (inl kind) (pairCommand 0x40 now) (write-sent (b .stage) kind) (Programming (pagesFor now))
             (hears-program chip sized stand (b .waiting) now (fact .forward) (fact .there))
             (Writing 0x06 kind (ap Programming (first-pages now)) (λ y. absurd (y refl)) (q ∙ ap (λ d. leaves d o) (write-means o s now m kind)))
 
@@ -438,24 +464,24 @@ module _ (chip : Chip) (s : List ℕ) (i n : ℕ) (o : Options) (sums : List ℕ
             verify-means o s now m kind
             (omega (arith, there, in-pages chip (now .flash), mid .fit (now .flash)))
             (omega (arith, fact .verify kind, blocks-in-pages (now .flash) (stepBlocks now))) in
-            opens (pairCommand 0x13 now) (emit-verify chip s p now here (b .stage) kind) (Verifying (pagesFor now))
+            opens (inr kind) (pairCommand 0x13 now) (verify-sent (b .stage) kind) (Verifying (pagesFor now))
             (hears-verify chip sized stand (b .waiting) now (fact .forward) (fact .there))
             (Comparing 0x06 kind (ap Verifying (first-pages now)) (q ∙ ap (λ d. leaves d o) means))
 
       -- a page
-      module _ (stage : p .stage ≡ Page) (z : p .at + k ≡ stepPages now) (f : p .frames ≡ n + 1 + p .at) where
-        abbrev sent : emitted chip s p ≡ sends Paged p page
+      module _ (stage : p .stage ≡ Page (now .kind)) (z : p .at + k ≡ stepPages now) (f : p .frames ≡ n + 1 + p .at) where
+        abbrev sent : emitted chip s p ≡ sends (Paged (now .kind)) p (p .at) page
         sent = page-sent stage z
 
         abbrev pager : Player
-        pager = awaiting Paged p
+        pager = awaiting (Paged (now .kind)) p (p .at)
 
         -- told, with the status of the pair
         page-ends : (m' : Memory) (st pieces : ℕ) → Fit chip m' → hears chip stand page ≡ out (rest Command Idle o m') (pair 0x06 st)
             → e ≡ leaves (done m' st pieces (2 + p .at) 0) o → (st ≡ 0x06 → k ≡ 1) → ((st ≡ 0x06 → ⊥) → pieces ≡ pagesSure (now .kind) (p .at))
             → Outcome
         page-ends m' st pieces fit arrived q last sure =
-            ends Paged page sent
+            ends (Paged (now .kind)) (p .at) page sent
             (told-waiting pager _ m' (pair 0x06 st) arrived fit st pieces (2 + p .at) 0 q (omega arith) (go (eqb st 0x06) refl))
           where
             go : (b : Bool) → eqb st 0x06 ≡ b
@@ -473,7 +499,7 @@ module _ (chip : Chip) (s : List ℕ) (i n : ℕ) (o : Options) (sums : List ℕ
             → k ≡ suc (suc left) → Paging (p .at + 1) (suc left) task m' → Outcome
         unfolding betweenIn
         page-goes m' task left fit arrived y paging =
-            goes Paged page sent task m' (pair 0x06 0x06) fit arrived Page (p .at + 1)
+            goes (Paged (now .kind)) (p .at) page sent task m' (pair 0x06 0x06) fit arrived (Page (now .kind)) (p .at + 1)
             (absorb-page-on chip s pager (pair 0x06 0x06) sums refl now refl (data-well 0x06) (λ x. omega arith))
             refl
             (suc left) y (omega arith)
@@ -563,10 +589,10 @@ module _ (chip : Chip) (s : List ℕ) (i n : ℕ) (o : Options) (sums : List ℕ
             go (suc (suc x)) z = verify-goes st kind task q x z
 
       any-turn : At k p (j .state .task) m → Outcome
-      any-turn (AtBlock kind stage w z f q) = block-turn kind stage w z f q
+      any-turn (AtBlock kind a at w z f q) = block-turn kind a at w z f q
       any-turn (AtOpen (inl kind) b z q) = write-opens b z q kind
       any-turn (AtOpen (inr kind) b z q) = verify-opens b z q kind
-      any-turn (AtOnce b z x) = ends (x .stage) (command (x .code ∷ x .info)) (x .sent) (x .told)
+      any-turn (AtOnce b z x) = ends (x .stage) 0 (command (x .code ∷ x .info)) (x .sent) (x .told)
       any-turn (AtPage stage z f paging) = page-turn stage z f paging
 
   module _ (room : ℕ) (ok : verdict chip s room ≡ Accepted) (k : ℕ) (j : Joined) (mid : Mid k j) where

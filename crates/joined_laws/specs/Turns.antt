@@ -46,7 +46,6 @@ mostCounted = 0xFFFFFFFF
 -- a player at the beginning of a step of the sheet, and a stand-in that waits for a command
 pub record AtBeginning (chip : Chip) (s : List ℕ) (j : Joined) : Type 0 where
   pub stage : j .player .stage ≡ Ready
-  pub at : j .player .at ≡ 0
   pub there : j .player .step < count s
   pub counts : j .player .frames + mostFrames (stepAt chip s (j .player .step)) ≤ mostCounted
   pub waiting : waits chip (j .state) ≡ true

@@ -76,7 +76,7 @@ module _ (chip : Chip) (s : List ℕ) (j : Joined) (t : TurnReady chip s j) wher
   -- the answer taken in
   taken-as : absorbedIn chip s (e .player) (h .answer) (j .sums) ≡ absorbed chip s (e .player) (h .answer) (j .sums)
   unfolding absorbedIn
-  taken-as = rw (emitted-stands chip s (j .player) (t .found))
+  taken-as = rw (emitted-stands chip s (length (j .sums)) (t .rooms .accepted) (j .player) (t .found))
 
   pub turn-made : (g : Player) (n : ℕ) (frame : List ℕ) → emitting g n frame ≡ emittedInto chip s (j .player) (j .frame)
       → (st : State) (call : Call) (taken : ℕ) (reply : List ℕ) → feeding st call taken reply ≡ fedInto chip (j .state) (j .reply) (take n frame)

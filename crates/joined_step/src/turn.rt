@@ -41,12 +41,11 @@ pub(crate) fn between(p: Player) -> bool
     let stage = p.stage;
     match stage {
         Stage::New => false,
-        Stage::Ready => p.at == 0,
-        Stage::Erased => false,
-        Stage::Opened => false,
-        Stage::Summed => false,
-        Stage::Page => false,
-        Stage::Paged => false,
+        Stage::Ready => true,
+        Stage::Block => false,
+        Stage::Commanded(_) => false,
+        Stage::Page(_) => false,
+        Stage::Paged(_) => false,
         Stage::Over => true,
     }
 }

@@ -16,13 +16,13 @@ use sheet::steps::step_blocks;
 use sheet::steps::step_pages;
 use sheet::table::count;
 ghost use mathlib.Core.Path.{_≡_};
-ghost use mathlib.Core.Bool.{false};
+ghost use mathlib.Core.Bool.{true, false};
 ghost use mathlib.Core.List.{List};
 ghost use Prim.Native.Nat.{ℕ, _<_};
 ghost use lib.ListN.{set};
 ghost use Rattle.rules.specs.declared.Stage.the-variants.{Over};
 ghost use Rattle.rules.specs.Sheet.{stepAt, stepBlocks, stepPages};
-ghost use Rattle.rules.specs.Player.{player, well, newPlayer, started, beginning, pagesSure, absorbs, finished, erasedBlock, openedPages, tookSum, sentPage, absorbed, lost};
+ghost use Rattle.rules.specs.Player.{player, well, newPlayer, started, beginning, pagesSure, absorbs, finished, erasedBlock, openedPages, tookSum, sentPage, absorbCommand, absorbed, commandIn, lost};
 ghost use Rattle.player_absorb.specs.Absorbing.{absorbedIn};
 
 // A player before its first call.
@@ -146,18 +146,18 @@ fn erased_block(sheet: &[u8], t: Step, p: Player, reply: &[u8], sums: &mut [u16]
     if at == blocks {
         return finish(sheet, p, 0, sums);
     }
-    go_on(Stage::Ready, p, at)
+    go_on(Stage::Block, p, at)
 }
 
 // The answer to a write or verify command.
-fn opened_pages(p: Player, reply: &[u8]) -> Player
-    ensures { λ r. ⌜ ((sums : List ℕ) → absorbs r sums ≡ openedPages p (now (reply .entry)) sums) ⌝ }
+fn opened_pages(kind: Kind, p: Player, reply: &[u8]) -> Player
+    ensures { λ r. ⌜ ((sums : List ℕ) → absorbs r sums ≡ openedPages kind p (now (reply .entry)) sums) ⌝ }
 {
     let status = command_reply(reply);
     if !is_well(status) {
         return stop(p, status, 0);
     }
-    go_on(Stage::Page, p, 0)
+    go_on(Stage::Page(kind), p, 0)
 }
 
 // The answer to a sum.
@@ -173,13 +173,12 @@ fn took_sum(sheet: &[u8], p: Player, reply: &[u8], sums: &mut [u16]) -> Player
 }
 
 // The answer to a page: it tells of the page before, and only with the last one of its own.
-fn sent_page(sheet: &[u8], t: Step, p: Player, reply: &[u8], sums: &mut [u16]) -> Player
+fn sent_page(kind: Kind, sheet: &[u8], t: Step, p: Player, reply: &[u8], sums: &mut [u16]) -> Player
     requires { ⌜ (p .step < 65536) × (p .at < stepPages t) ⌝ }
-    ensures { λ r. ⌜ absorbs r (now (sums .exit)) ≡ sentPage (now (sheet .entry)) t p (now (reply .entry)) (now (sums .entry)) ⌝ }
+    ensures { λ r. ⌜ absorbs r (now (sums .exit)) ≡ sentPage kind (now (sheet .entry)) t p (now (reply .entry)) (now (sums .entry)) ⌝ }
 {
     let status = data_reply(reply);
     if !is_well(status) {
-        let kind = t.kind;
         return stop(p, status, pages_sure(kind, p.at));
     }
     let pages = step_pages(t);
@@ -187,7 +186,27 @@ fn sent_page(sheet: &[u8], t: Step, p: Player, reply: &[u8], sums: &mut [u16]) -
     if at == pages {
         return finish(sheet, p, 0, sums);
     }
-    go_on(Stage::Page, p, at)
+    go_on(Stage::Page(kind), p, at)
+}
+
+// The answer to a command frame, by the kind begun.
+fn absorb_command(
+    kind: Kind,
+    sheet: &[u8],
+    t: Step,
+    p: Player,
+    reply: &[u8],
+    sums: &mut [u16],
+) -> Player
+    requires { ⌜ (p .step < 65536) × (commandIn kind t (p .at) ≡ true) ⌝ }
+    ensures { λ r. ⌜ absorbs r (now (sums .exit)) ≡ absorbCommand kind (now (sheet .entry)) t p (now (reply .entry)) (now (sums .entry)) ⌝ }
+{
+    match kind {
+        Kind::Erase => erased_block(sheet, t, p, reply, sums),
+        Kind::Write => opened_pages(Kind::Write, p, reply),
+        Kind::Verify => opened_pages(Kind::Verify, p, reply),
+        Kind::Sum => took_sum(sheet, p, reply, sums),
+    }
 }
 
 // By stage, in the player's step `t` of the sheet.
@@ -199,11 +218,10 @@ fn absorb_in(chip: Chip, sheet: &[u8], t: Step, p: Player, reply: &[u8], sums: &
     match stage {
         Stage::New => begin(sheet),
         Stage::Ready => p,
-        Stage::Erased => erased_block(sheet, t, p, reply, sums),
-        Stage::Opened => opened_pages(p, reply),
-        Stage::Summed => took_sum(sheet, p, reply, sums),
-        Stage::Page => p,
-        Stage::Paged => sent_page(sheet, t, p, reply, sums),
+        Stage::Block => p,
+        Stage::Commanded(kind) => absorb_command(kind, sheet, t, p, reply, sums),
+        Stage::Page(_) => p,
+        Stage::Paged(kind) => sent_page(kind, sheet, t, p, reply, sums),
         Stage::Over => p,
     }
 }

@@ -1,8 +1,9 @@
 -- The frame that is given, in its buffer: one law for each outcome; and, where the sheet is accepted and the player in it, that it is the
 -- frame of the definitions. Assumes nothing.
 use mathlib.Core.Path.{_≡_, refl, sym, ap, _∙_}
-use mathlib.Core.Bool.{Bool, true, false, false≢true}
+use mathlib.Core.Bool.{Bool, true, false}
 use mathlib.Core.List.{List}
+use mathlib.Core.Logic.{inl, inr}
 use Prim.Native.Nat.{ℕ, _+_, _-_, _*_, _<_, _≤_}
 use native.Mathlib.Omega.{arith}
 use lib.Dec.{leb}
@@ -10,21 +11,21 @@ use lib.ListN.{length, drop, length-take}
 use borrow.Author.Tests.{lt-ltb, le-ltb, le-leb, lt-leb, leb-true, leb-false}
 use Rattle.rules.specs.declared.Chip.{Chip}
 use Rattle.rules.specs.declared.Kind.{Kind}
-use Rattle.rules.specs.declared.Kind.the-variants.{Erase, Write, Verify, Sum}
+use Rattle.rules.specs.declared.Kind.the-variants.{Write, Verify}
 use Rattle.rules.specs.declared.Player.{Player}
 use Rattle.rules.specs.declared.Stage.{Stage}
-use Rattle.rules.specs.declared.Stage.the-variants.{New, Ready, Erased, Opened, Summed, Page, Paged, Over}
+use Rattle.rules.specs.declared.Stage.the-variants.{New, Ready, Block, Commanded, Page, Paged, Over}
 use Rattle.rules.specs.declared.Step.{Step}
 use Rattle.rules.specs.declared.Verdict.the-variants.{Accepted}
 use Rattle.rules.specs.Chip.{over, pageSize}
 use Rattle.rules.specs.Frame.{frame}
 use Rattle.rules.specs.Sheet.{stepAt, bodyPage, verdict}
-use Rattle.rules.specs.Player.{pageFrame, awaits, emitBy, emitted, lost}
+use Rattle.rules.specs.Player.{pageFrame, emitBy, emitted, lost}
 use Rattle.sheet.proofs.Accepted.{Inside, sound, page-inside}
 use Rattle.frame_build.specs.Buffer.{Put, put, putBytes}
 use Rattle.frame_build.proofs.Buffers.{bytes-fit}
 use Rattle.player_laws.proofs.Lengths.{frame-short}
-use Rattle.player_laws.proofs.PlaceInSheet.{page-stands}
+use Rattle.player_laws.proofs.PlaceInSheet.{Paging, page-stands}
 use Rattle.player_emit.specs.Emitting.{emitting, emittingBy, pageThere, pageInto, emittedIntoBy, emittedInto}
 
 -- ---- bytes put over the first of a buffer ----
@@ -54,12 +55,12 @@ page-behind body at n h = go (leb body (n - (at * 256 + 256))) refl
     go true e = let l = leb-true body (n - (at * 256 + 256)) e in sym (le-leb (body + at * 256 + 256) n (omega arith))
     go false e = let l = leb-false body (n - (at * 256 + 256)) e in sym (lt-leb (body + at * 256 + 256) n (omega arith))
 
-module _ (s : List ℕ) (t : Step) (p : Player) (buffer : List ℕ) where
-  pub page-not : pageThere s t (p .at) ≡ false → pageInto s t p buffer ≡ emitting p 0 buffer
+module _ (k : Kind) (s : List ℕ) (t : Step) (p : Player) (buffer : List ℕ) where
+  pub page-not : pageThere s t (p .at) ≡ false → pageInto k s t p buffer ≡ emitting p 0 buffer
   unfolding pageInto
   page-not h = rw h
 
-  pub page-is : pageThere s t (p .at) ≡ true → pageInto s t p buffer ≡ emittingBy (emitBy Page s t p) buffer
+  pub page-is : pageThere s t (p .at) ≡ true → pageInto k s t p buffer ≡ emittingBy (emitBy (Page k) s t p) buffer
   unfolding pageInto emitBy
   page-is h = rw h
 
@@ -80,13 +81,10 @@ module _ (chip : Chip) (s : List ℕ) (p : Player) (buffer : List ℕ) where
     into-in h = rw (le-ltb (length buffer) 260 room, h)
 
 -- a body that is read lies in the sheet
-paging-inside : (s : List ℕ) (t : Step) (k : Kind) → awaits k false true false ≡ true → t .kind ≡ k
+paging-inside : (s : List ℕ) (t : Step) (k : Kind) → t .kind ≡ k → Paging k
     → (t .kind ≡ Write → Inside s t) → (t .kind ≡ Verify → Inside s t) → Inside s t
-unfolding awaits
-paging-inside s t Erase a e w v = absurd (false≢true a)
-paging-inside s t Write a e w v = w e
-paging-inside s t Verify a e w v = v e
-paging-inside s t Sum a e w v = absurd (false≢true a)
+paging-inside s t k e (inl h) w v = w (e ∙ h)
+paging-inside s t k e (inr h) w v = v (e ∙ h)
 
 -- ACCEPTED AND NOT LOST: the frame of the definitions
 pub into-emitted : (chip : Chip) (s : List ℕ) (p : Player) (buffer : List ℕ) (sums : ℕ)
@@ -104,13 +102,12 @@ into-emitted chip s p buffer sums ok room h =
     go : (g : Stage) → p .stage ≡ g → emittedIntoBy g s t p buffer ≡ emittingBy (emitBy g s t p) buffer
     go New g = refl
     go Ready g = refl
-    go Erased g = refl
-    go Opened g = refl
-    go Summed g = refl
-    go Page g =
+    go Block g = refl
+    go (Commanded k) g = refl
+    go (Page k) g =
         let a = page-stands chip s p t refl h g in
         let d = sound chip s sums ok (p .step) (a .0) in
-        let inside = paging-inside s t (t .kind) (a .1) refl (d .write) (d .verify) in
-        page-is s t p buffer (le-leb (t .body + p .at * pageSize + pageSize) (length s) (page-inside s t inside (p .at) (a .2)))
-    go Paged g = refl
+        let inside = paging-inside s t k (a .1) (a .2) (d .write) (d .verify) in
+        page-is k s t p buffer (le-leb (t .body + p .at * pageSize + pageSize) (length s) (page-inside s t inside (p .at) (a .3)))
+    go (Paged k) g = refl
     go Over g = refl

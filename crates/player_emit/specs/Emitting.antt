@@ -6,13 +6,15 @@ use mathlib.Core.List.{List}
 use lib.Dec.{ltb, leb}
 use lib.ListN.{length}
 use Rattle.rules.specs.declared.Chip.{Chip}
+use Rattle.rules.specs.declared.Kind.{Kind}
+use Rattle.rules.specs.declared.Kind.the-variants.{Erase}
 use Rattle.rules.specs.declared.Stage.{Stage}
-use Rattle.rules.specs.declared.Stage.the-variants.{New, Ready, Erased, Opened, Summed, Page, Paged, Over}
+use Rattle.rules.specs.declared.Stage.the-variants.{New, Ready, Block, Commanded, Page, Paged, Over}
 use Rattle.rules.specs.declared.Player.{Player}
 use Rattle.rules.specs.declared.Step.{Step}
 use Rattle.rules.specs.Chip.{over, pageSize}
 use Rattle.rules.specs.Sheet.{stepAt}
-use Rattle.rules.specs.Player.{Sent, sends, pageFrame, emitReady, lost, frameRoom}
+use Rattle.rules.specs.Player.{Sent, sends, firstCommand, blockCommand, pageFrame, lost, frameRoom}
 
 -- the player after a frame, how many bytes were given, and the buffer
 pub record Emitting : Type 0 where
@@ -30,18 +32,17 @@ emittingBy e buffer = emitting (e .player) (length (e .bytes)) (over (e .bytes) 
 abbrev pub pageThere : List ℕ → Step → ℕ → Bool
 pageThere s t k = leb (t .body + k * pageSize + pageSize) (length s)
 
-unfoldable pub pageInto : List ℕ → Step → Player → List ℕ → Emitting
-pageInto s t p buffer =
-    cond (pageThere s t (p .at)) (emittingBy (sends Paged p (pageFrame s t (p .at))) buffer) (emitting p 0 buffer)
+unfoldable pub pageInto : Kind → List ℕ → Step → Player → List ℕ → Emitting
+pageInto k s t p buffer =
+    cond (pageThere s t (p .at)) (emittingBy (sends (Paged k) p (p .at) (pageFrame s t (p .at))) buffer) (emitting p 0 buffer)
 
 unfoldable pub emittedIntoBy : Stage → List ℕ → Step → Player → List ℕ → Emitting
 emittedIntoBy New s t p buffer = emitting p 0 buffer
-emittedIntoBy Ready s t p buffer = emittingBy (emitReady (t .kind) t p) buffer
-emittedIntoBy Erased s t p buffer = emitting p 0 buffer
-emittedIntoBy Opened s t p buffer = emitting p 0 buffer
-emittedIntoBy Summed s t p buffer = emitting p 0 buffer
-emittedIntoBy Page s t p buffer = pageInto s t p buffer
-emittedIntoBy Paged s t p buffer = emitting p 0 buffer
+emittedIntoBy Ready s t p buffer = emittingBy (sends (Commanded (t .kind)) p 0 (firstCommand (t .kind) t)) buffer
+emittedIntoBy Block s t p buffer = emittingBy (sends (Commanded Erase) p (p .at) (blockCommand t (p .at))) buffer
+emittedIntoBy (Commanded k) s t p buffer = emitting p 0 buffer
+emittedIntoBy (Page k) s t p buffer = pageInto k s t p buffer
+emittedIntoBy (Paged k) s t p buffer = emitting p 0 buffer
 emittedIntoBy Over s t p buffer = emitting p 0 buffer
 
 -- THE NEXT FRAME IS GIVEN

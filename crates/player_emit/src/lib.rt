@@ -27,9 +27,10 @@ ghost use mathlib.Core.Bool.{false};
 ghost use Prim.Native.Nat.{_+_, _*_, _<_, _≤_};
 ghost use lib.ListN.{length};
 ghost use Rattle.rules.specs.Sheet.{stepAt, stepBlocks, stepPages};
-ghost use Rattle.rules.specs.Player.{player, counted, pairCommand, blockCommand, pageFrame, emitReady, lost};
+ghost use Rattle.rules.specs.Player.{player, counted, sends, pairCommand, blockCommand, firstCommand, pageFrame, lost};
 ghost use Rattle.frame_build.specs.Buffer.{put, putBytes};
 ghost use Rattle.rules.specs.declared.Kind.the-variants.{Erase};
+ghost use Rattle.rules.specs.declared.Stage.the-variants.{Commanded};
 ghost use Rattle.player_emit.specs.Emitting.{emitting, emittingBy, pageThere, pageInto, emittedIntoBy, emittedInto};
 
 // The player after a frame, and how many bytes the frame has; 0 where none is given.
@@ -48,15 +49,15 @@ fn count_frame(n: usize) -> usize
     n
 }
 
-// A frame is sent, and its answer awaited.
-fn sending(stage: Stage, p: Player) -> Player
-    ensures { λ r. ⌜ r ≡ player stage (p .step) (p .at) (counted (p .frames)) (p .pieces) (p .status) ⌝ }
+// A frame is sent, at that block or page, and its answer awaited.
+fn sending(stage: Stage, p: Player, at: usize) -> Player
+    ensures { λ r. ⌜ r ≡ player stage (p .step) at (counted (p .frames)) (p .pieces) (p .status) ⌝ }
 {
     let status = p.status;
     Player {
         stage,
         step: p.step,
-        at: p.at,
+        at,
         frames: count_frame(p.frames),
         pieces: p.pieces,
         status,
@@ -84,7 +85,7 @@ fn pair_command(code: u8, t: Step, frame: &mut [u8]) -> usize
 
 // The erase of the step's block `at`.
 fn block_command(t: Step, at: usize, frame: &mut [u8]) -> usize
-    requires { ⌜ at < stepBlocks t ⌝ }
+    requires { ⌜ t .first .0 + at < 65536 ⌝ }
     ensures { λ r. ⌜ put r (now (frame .exit)) ≡ putBytes (blockCommand t at) (now (frame .entry)) ⌝ }
 {
     let flash = t.flash;
@@ -130,55 +131,54 @@ fn nothing(p: Player) -> Emitted
     Emitted { player: p, sent: 0 }
 }
 
-// The frame that begins a step, or its next block.
-fn emit_ready(t: Step, p: Player, frame: &mut [u8]) -> Emitted
-    requires { ⌜ (260 ≤ length (now frame)) × (t .kind ≡ Erase → p .at < stepBlocks t) ⌝ }
-    ensures { λ r. ⌜ emitting (r .player) (r .sent) (now (frame .exit)) ≡ emittingBy (emitReady (t .kind) t p) (now (frame .entry)) ⌝ }
+// The first frame of a step.
+fn first_command(kind: Kind, t: Step, frame: &mut [u8]) -> usize
+    ensures { λ r. ⌜ put r (now (frame .exit)) ≡ putBytes (firstCommand kind t) (now (frame .entry)) ⌝ }
+{
+    match kind {
+        Kind::Erase => block_command(t, 0, frame),
+        Kind::Write => pair_command(PROGRAMMING, t, frame),
+        Kind::Verify => pair_command(VERIFY, t, frame),
+        Kind::Sum => pair_command(CHECKSUM, t, frame),
+    }
+}
+
+// A step begins: the record keeps its kind.
+fn emit_first(t: Step, p: Player, frame: &mut [u8]) -> Emitted
+    requires { ⌜ 260 ≤ length (now frame) ⌝ }
+    ensures { λ r. ⌜ emitting (r .player) (r .sent) (now (frame .exit)) ≡ emittingBy (sends (Commanded (t .kind)) p 0 (firstCommand (t .kind) t)) (now (frame .entry)) ⌝ }
 {
     let kind = t.kind;
-    match kind {
-        Kind::Erase => {
-            let sent = block_command(t, p.at, frame);
-            Emitted {
-                player: sending(Stage::Erased, p),
-                sent,
-            }
-        }
-        Kind::Write => {
-            let sent = pair_command(PROGRAMMING, t, frame);
-            Emitted {
-                player: sending(Stage::Opened, p),
-                sent,
-            }
-        }
-        Kind::Verify => {
-            let sent = pair_command(VERIFY, t, frame);
-            Emitted {
-                player: sending(Stage::Opened, p),
-                sent,
-            }
-        }
-        Kind::Sum => {
-            let sent = pair_command(CHECKSUM, t, frame);
-            Emitted {
-                player: sending(Stage::Summed, p),
-                sent,
-            }
-        }
+    let sent = first_command(kind, t, frame);
+    Emitted {
+        player: sending(Stage::Commanded(kind), p, 0),
+        sent,
+    }
+}
+
+// The next block of an erase.
+fn emit_block(t: Step, p: Player, frame: &mut [u8]) -> Emitted
+    requires { ⌜ (260 ≤ length (now frame)) × (p .at < stepBlocks t) ⌝ }
+    ensures { λ r. ⌜ emitting (r .player) (r .sent) (now (frame .exit)) ≡ emittingBy (sends (Commanded Erase) p (p .at) (blockCommand t (p .at))) (now (frame .entry)) ⌝ }
+{
+    let sent = block_command(t, p.at, frame);
+    Emitted {
+        player: sending(Stage::Commanded(Kind::Erase), p, p.at),
+        sent,
     }
 }
 
 // The page in hand; none where the sheet does not have it.
-fn emit_page(sheet: &[u8], t: Step, p: Player, frame: &mut [u8]) -> Emitted
+fn emit_page(kind: Kind, sheet: &[u8], t: Step, p: Player, frame: &mut [u8]) -> Emitted
     requires { ⌜ (260 ≤ length (now frame)) × (p .at < stepPages t) ⌝ }
-    ensures { λ r. ⌜ emitting (r .player) (r .sent) (now (frame .exit)) ≡ pageInto (now (sheet .entry)) t p (now (frame .entry)) ⌝ }
+    ensures { λ r. ⌜ emitting (r .player) (r .sent) (now (frame .exit)) ≡ pageInto kind (now (sheet .entry)) t p (now (frame .entry)) ⌝ }
 {
     if !page_there(sheet, t, p.at) {
         return nothing(p);
     }
     let sent = page_frame(sheet, t, p.at, frame);
     Emitted {
-        player: sending(Stage::Paged, p),
+        player: sending(Stage::Paged(kind), p, p.at),
         sent,
     }
 }
@@ -191,12 +191,11 @@ fn emit_in(chip: Chip, sheet: &[u8], t: Step, p: Player, frame: &mut [u8]) -> Em
     let stage = p.stage;
     match stage {
         Stage::New => nothing(p),
-        Stage::Ready => emit_ready(t, p, frame),
-        Stage::Erased => nothing(p),
-        Stage::Opened => nothing(p),
-        Stage::Summed => nothing(p),
-        Stage::Page => emit_page(sheet, t, p, frame),
-        Stage::Paged => nothing(p),
+        Stage::Ready => emit_first(t, p, frame),
+        Stage::Block => emit_block(t, p, frame),
+        Stage::Commanded(_) => nothing(p),
+        Stage::Page(kind) => emit_page(kind, sheet, t, p, frame),
+        Stage::Paged(_) => nothing(p),
         Stage::Over => nothing(p),
     }
 }

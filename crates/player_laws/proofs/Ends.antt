@@ -7,7 +7,7 @@ use lib.ListN.{length}
 use Rattle.rules.specs.declared.Chip.{Chip}
 use Rattle.rules.specs.declared.Player.{Player}
 use Rattle.rules.specs.declared.Stage.{Stage}
-use Rattle.rules.specs.declared.Stage.the-variants.{New, Ready, Erased, Opened, Summed, Page, Paged, Over}
+use Rattle.rules.specs.declared.Stage.the-variants.{New, Ready, Block, Commanded, Page, Paged, Over}
 use Rattle.rules.specs.declared.Step.{Step}
 use Rattle.rules.specs.declared.Verdict.the-variants.{Accepted}
 use Rattle.rules.specs.Sheet.{count, stepAt, verdict}
@@ -23,11 +23,10 @@ none-left : (g : Stage) (t : Step) (at later all : ℕ) → leftBy g t at later 
 unfolding leftBy
 none-left New t at later all e = absurd (omega arith)
 none-left Ready t at later all e = absurd (omega arith)
-none-left Erased t at later all e = absurd (omega arith)
-none-left Opened t at later all e = absurd (omega arith)
-none-left Summed t at later all e = absurd (omega arith)
-none-left Page t at later all e = absurd (omega arith)
-none-left Paged t at later all e = absurd (omega arith)
+none-left Block t at later all e = absurd (omega arith)
+none-left (Commanded k) t at later all e = absurd (omega arith)
+none-left (Page k) t at later all e = absurd (omega arith)
+none-left (Paged k) t at later all e = absurd (omega arith)
 none-left Over t at later all e = refl
 
 left-none : (chip : Chip) (s : List ℕ) (p : Player) → callsLeft chip s p ≤ 0 → p .stage ≡ Over

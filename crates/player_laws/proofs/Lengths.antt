@@ -11,14 +11,14 @@ use Rattle.rules.specs.declared.Kind.{Kind}
 use Rattle.rules.specs.declared.Kind.the-variants.{Erase, Write, Verify, Sum}
 use Rattle.rules.specs.declared.Player.{Player}
 use Rattle.rules.specs.declared.Stage.{Stage}
-use Rattle.rules.specs.declared.Stage.the-variants.{New, Ready, Erased, Opened, Summed, Page, Paged, Over}
+use Rattle.rules.specs.declared.Stage.the-variants.{New, Ready, Block, Commanded, Page, Paged, Over}
 use Rattle.rules.specs.declared.Step.{Step}
 use Rattle.rules.specs.declared.Verdict.{Verdict}
 use Rattle.rules.specs.declared.Verdict.the-variants.{Accepted, Refused}
 use Rattle.rules.specs.Chip.{over, pageSize}
 use Rattle.rules.specs.Frame.{frame}
 use Rattle.rules.specs.Sheet.{stepAt, stepBlocks, stepPages}
-use Rattle.rules.specs.Player.{isWell, commandReply, sumReply, sumIn, dataReply, Absorbed, finished, erasedBlock, openedPages, tookSum, sentPage, absorbBy, absorbed, emitReady, emitBy, emitted, frameRoom, playerVerdict, played, called}
+use Rattle.rules.specs.Player.{isWell, commandReply, sumReply, sumIn, dataReply, Absorbed, finished, erasedBlock, openedPages, tookSum, sentPage, absorbCommand, absorbBy, absorbed, firstCommand, emitBy, emitted, frameRoom, playerVerdict, played, called}
 use Rattle.frame_build.proofs.Buffers.{length-frame}
 use Rattle.player_laws.proofs.Moves.{call-refused, call-played}
 use Rattle.player_laws.proofs.PlaceInSheet.{allowed-call}
@@ -29,22 +29,21 @@ use Rattle.player_laws.proofs.PlaceInSheet.{allowed-call}
 pub frame-short : (start end : ℕ) (body : List ℕ) → length body ≤ pageSize → length (frame start end body) ≤ frameRoom
 frame-short start end body h = omega (arith, length-frame start end body)
 
-ready-short : (k : Kind) (t : Step) (p : Player) → length (emitReady k t p .bytes) ≤ frameRoom
-unfolding emitReady
-ready-short Erase t p = frame-short _ _ _ (omega arith)
-ready-short Write t p = frame-short _ _ _ (omega arith)
-ready-short Verify t p = frame-short _ _ _ (omega arith)
-ready-short Sum t p = frame-short _ _ _ (omega arith)
+pub first-short : (k : Kind) (t : Step) → length (firstCommand k t) ≤ frameRoom
+unfolding firstCommand
+first-short Erase t = frame-short _ _ _ (omega arith)
+first-short Write t = frame-short _ _ _ (omega arith)
+first-short Verify t = frame-short _ _ _ (omega arith)
+first-short Sum t = frame-short _ _ _ (omega arith)
 
 stage-short : (g : Stage) (s : List ℕ) (t : Step) (p : Player) → length (emitBy g s t p .bytes) ≤ frameRoom
 unfolding emitBy
 stage-short New s t p = omega arith
-stage-short Ready s t p = ready-short (t .kind) t p
-stage-short Erased s t p = omega arith
-stage-short Opened s t p = omega arith
-stage-short Summed s t p = omega arith
-stage-short Page s t p = frame-short _ _ _ (omega (arith, length-take pageSize (drop (t .body + p .at * pageSize) s)))
-stage-short Paged s t p = omega arith
+stage-short Ready s t p = first-short (t .kind) t
+stage-short Block s t p = frame-short _ _ _ (omega arith)
+stage-short (Commanded k) s t p = omega arith
+stage-short (Page k) s t p = frame-short _ _ _ (omega (arith, length-take pageSize (drop (t .body + p .at * pageSize) s)))
+stage-short (Paged k) s t p = omega arith
 stage-short Over s t p = omega arith
 
 pub emit-short : (chip : Chip) (s : List ℕ) (p : Player) → length (emitted chip s p .bytes) ≤ frameRoom
@@ -65,18 +64,24 @@ finished-sums : (s : List ℕ) (p : Player) (sum : ℕ) (sums : List ℕ) → le
 unfolding finished
 finished-sums s p sum sums = length-set sums (p .step) sum
 
-stage-sums : (g : Stage) (s : List ℕ) (t : Step) (p : Player) (r sums : List ℕ) → length (absorbBy g s t p r sums .sums) ≡ length sums
-unfolding absorbBy erasedBlock openedPages tookSum sentPage
-stage-sums New s t p r sums = refl
-stage-sums Ready s t p r sums = refl
-stage-sums Erased s t p r sums =
+command-sums : (k : Kind) (s : List ℕ) (t : Step) (p : Player) (r sums : List ℕ) → length (absorbCommand k s t p r sums .sums) ≡ length sums
+unfolding absorbCommand erasedBlock openedPages tookSum
+command-sums Erase s t p r sums =
     either (isWell (commandReply r)) _ _ (length sums)
     (either (eqb (p .at + 1) (stepBlocks t)) _ _ (length sums) (finished-sums s p 0 sums) refl)
     refl
-stage-sums Opened s t p r sums = either (isWell (commandReply r)) _ _ (length sums) refl refl
-stage-sums Summed s t p r sums = either (isWell (sumReply r)) _ _ (length sums) (finished-sums s p (sumIn r) sums) refl
-stage-sums Page s t p r sums = refl
-stage-sums Paged s t p r sums =
+command-sums Write s t p r sums = either (isWell (commandReply r)) _ _ (length sums) refl refl
+command-sums Verify s t p r sums = either (isWell (commandReply r)) _ _ (length sums) refl refl
+command-sums Sum s t p r sums = either (isWell (sumReply r)) _ _ (length sums) (finished-sums s p (sumIn r) sums) refl
+
+stage-sums : (g : Stage) (s : List ℕ) (t : Step) (p : Player) (r sums : List ℕ) → length (absorbBy g s t p r sums .sums) ≡ length sums
+unfolding absorbBy sentPage
+stage-sums New s t p r sums = refl
+stage-sums Ready s t p r sums = refl
+stage-sums Block s t p r sums = refl
+stage-sums (Commanded k) s t p r sums = command-sums k s t p r sums
+stage-sums (Page k) s t p r sums = refl
+stage-sums (Paged k) s t p r sums =
     either (isWell (dataReply r)) _ _ (length sums)
     (either (eqb (p .at + 1) (stepPages t)) _ _ (length sums) (finished-sums s p 0 sums) refl)
     refl

@@ -1,22 +1,26 @@
 -- The moves of a player: what a reply comes to, stage by stage, which frame is given next, and what a call does. Assumes nothing.
-use mathlib.Core.Path.{_≡_, _∙_}
+use mathlib.Core.Path.{_≡_, ap, _∙_}
 use mathlib.Core.Bool.{false}
 use mathlib.Core.List.{List}
+use mathlib.Core.Logic.{inl, inr}
 use Prim.Native.Nat.{ℕ, _+_}
 use lib.ListN.{length}
 use borrow.Author.Tests.{eq-eqb, ne-eqb}
 use Rattle.rules.specs.declared.Chip.{Chip}
-use Rattle.rules.specs.declared.Kind.the-variants.{Erase, Write, Verify, Sum}
+use Rattle.rules.specs.declared.Kind.{Kind}
+use Rattle.rules.specs.declared.Kind.the-variants.{Erase, Sum}
 use Rattle.rules.specs.declared.Next.the-variants.{Refused, End}
 use Rattle.rules.specs.declared.Player.{Player}
 use Rattle.rules.specs.declared.Refusal.{Refusal}
-use Rattle.rules.specs.declared.Stage.the-variants.{New, Ready, Erased, Opened, Summed, Page, Paged, Over}
+use Rattle.rules.specs.declared.Stage.{Stage}
+use Rattle.rules.specs.declared.Stage.the-variants.{New, Ready, Block, Commanded, Page, Paged, Over}
 use Rattle.rules.specs.declared.Step.{Step}
 use Rattle.rules.specs.declared.Verdict.the-variants.{Accepted}
 use Rattle.rules.specs.declared.Verdict.the-variants as v
 use Rattle.rules.specs.Chip.{over}
 use Rattle.rules.specs.Sheet.{stepAt, stepBlocks, stepPages}
-use Rattle.rules.specs.Player.{well, commandReply, sumReply, sumIn, dataReply, isWell, absorbs, stopped, goesOn, finished, pagesSure, erasedBlock, openedPages, tookSum, sentPage, started, absorbBy, absorbed, sends, silent, pairCommand, blockCommand, pageFrame, emitReady, emitBy, emitted, playerVerdict, calls, played, callBy, called}
+use Rattle.rules.specs.Player.{well, commandReply, sumReply, sumIn, dataReply, isWell, absorbs, stopped, goesOn, finished, pagesSure, erasedBlock, openedPages, tookSum, sentPage, started, absorbCommand, absorbBy, absorbed, sends, silent, firstCommand, blockCommand, pageFrame, emitBy, emitted, playerVerdict, calls, played, callBy, called}
+use Rattle.player_laws.proofs.PlaceInSheet.{Paging}
 
 module _ (chip : Chip) (s : List ℕ) (p : Player) where
   -- ---- a reply is taken in ----
@@ -31,7 +35,11 @@ module _ (chip : Chip) (s : List ℕ) (p : Player) where
     unfolding absorbed absorbBy
     absorb-ready g = rw g
 
-    pub absorb-ahead : p .stage ≡ Page → absorbed chip s p r sums ≡ absorbs p sums
+    pub absorb-block : p .stage ≡ Block → absorbed chip s p r sums ≡ absorbs p sums
+    unfolding absorbed absorbBy
+    absorb-block g = rw g
+
+    pub absorb-ahead : {k : Kind} → p .stage ≡ Page k → absorbed chip s p r sums ≡ absorbs p sums
     unfolding absorbed absorbBy
     absorb-ahead g = rw g
 
@@ -40,49 +48,57 @@ module _ (chip : Chip) (s : List ℕ) (p : Player) where
     absorb-over g = rw g
 
     -- to a write or verify command
-    module _ (g : p .stage ≡ Opened) where
-      pub absorb-opened : commandReply r ≡ well → absorbed chip s p r sums ≡ goesOn Page p 0 sums
-      unfolding absorbed absorbBy openedPages
-      absorb-opened w = rw (g, w)
+    module _ {k : Kind} (g : p .stage ≡ Commanded k) (w : Paging k) where
+      opening : absorbed chip s p r sums ≡ openedPages k p r sums
+      unfolding absorbed absorbBy absorbCommand
+      opening = ap (λ (g : Stage). absorbBy g s (stepAt chip s (p .step)) p r sums) g ∙ go w
+        where
+          go : Paging k → absorbCommand k s (stepAt chip s (p .step)) p r sums ≡ openedPages k p r sums
+          go (inl e) = rw e
+          go (inr e) = rw e
+
+      pub absorb-opened : commandReply r ≡ well → absorbed chip s p r sums ≡ goesOn (Page k) p 0 sums
+      unfolding openedPages
+      absorb-opened h = opening ∙ rw h
 
       pub absorb-opened-stop : isWell (commandReply r) ≡ false → absorbed chip s p r sums ≡ stopped p (commandReply r) 0 sums
-      unfolding absorbed absorbBy openedPages
-      absorb-opened-stop n = rw (g, n)
+      unfolding openedPages
+      absorb-opened-stop n = opening ∙ rw n
 
     -- to a sum
-    module _ (g : p .stage ≡ Summed) where
+    module _ (g : p .stage ≡ Commanded Sum) where
       pub absorb-sum : sumReply r ≡ well → absorbed chip s p r sums ≡ finished s p (sumIn r) sums
-      unfolding absorbed absorbBy tookSum
+      unfolding absorbed absorbBy absorbCommand tookSum
       absorb-sum w = rw (g, w)
 
       pub absorb-sum-stop : isWell (sumReply r) ≡ false → absorbed chip s p r sums ≡ stopped p (sumReply r) 0 sums
-      unfolding absorbed absorbBy tookSum
+      unfolding absorbed absorbBy absorbCommand tookSum
       absorb-sum-stop n = rw (g, n)
 
     -- to the erase of a block
-    module _ (g : p .stage ≡ Erased) where
+    module _ (g : p .stage ≡ Commanded Erase) where
       pub absorb-erase-stop : isWell (commandReply r) ≡ false → absorbed chip s p r sums ≡ stopped p (commandReply r) (p .at) sums
-      unfolding absorbed absorbBy erasedBlock
+      unfolding absorbed absorbBy absorbCommand erasedBlock
       absorb-erase-stop n = rw (g, n)
 
       module _ (t : Step) (here : stepAt chip s (p .step) ≡ t) (w : commandReply r ≡ well) where
-        pub absorb-erase-on : (p .at + 1 ≡ stepBlocks t → ⊥) → absorbed chip s p r sums ≡ goesOn Ready p (p .at + 1) sums
-        unfolding absorbed absorbBy erasedBlock
+        pub absorb-erase-on : (p .at + 1 ≡ stepBlocks t → ⊥) → absorbed chip s p r sums ≡ goesOn Block p (p .at + 1) sums
+        unfolding absorbed absorbBy absorbCommand erasedBlock
         absorb-erase-on n = rw (g, here, w, ne-eqb (p .at + 1) (stepBlocks t) n)
 
         pub absorb-erase-last : p .at + 1 ≡ stepBlocks t → absorbed chip s p r sums ≡ finished s p 0 sums
-        unfolding absorbed absorbBy erasedBlock
+        unfolding absorbed absorbBy absorbCommand erasedBlock
         absorb-erase-last e = rw (g, here, w, eq-eqb (p .at + 1) (stepBlocks t) e)
 
     -- to a page
-    module _ (g : p .stage ≡ Paged) (t : Step) (here : stepAt chip s (p .step) ≡ t) where
+    module _ {k : Kind} (g : p .stage ≡ Paged k) (t : Step) (here : stepAt chip s (p .step) ≡ t) where
       pub absorb-page-stop : isWell (dataReply r) ≡ false
-          → absorbed chip s p r sums ≡ stopped p (dataReply r) (pagesSure (t .kind) (p .at)) sums
+          → absorbed chip s p r sums ≡ stopped p (dataReply r) (pagesSure k (p .at)) sums
       unfolding absorbed absorbBy sentPage
       absorb-page-stop n = rw (g, here, n)
 
       module _ (w : dataReply r ≡ well) where
-        pub absorb-page-on : (p .at + 1 ≡ stepPages t → ⊥) → absorbed chip s p r sums ≡ goesOn Page p (p .at + 1) sums
+        pub absorb-page-on : (p .at + 1 ≡ stepPages t → ⊥) → absorbed chip s p r sums ≡ goesOn (Page k) p (p .at + 1) sums
         unfolding absorbed absorbBy sentPage
         absorb-page-on n = rw (g, here, w, ne-eqb (p .at + 1) (stepPages t) n)
 
@@ -97,24 +113,16 @@ module _ (chip : Chip) (s : List ℕ) (p : Player) where
   emit-over g = rw g
 
   module _ (t : Step) (here : stepAt chip s (p .step) ≡ t) where
-    module _ (g : p .stage ≡ Ready) where
-      pub emit-erase : t .kind ≡ Erase → emitted chip s p ≡ sends Erased p (blockCommand t (p .at))
-      unfolding emitted emitBy emitReady
-      emit-erase k = rw (g, here, k)
+    -- the first frame of a step, whatever its kind
+    pub emit-first : p .stage ≡ Ready → {k : Kind} → t .kind ≡ k → emitted chip s p ≡ sends (Commanded k) p 0 (firstCommand k t)
+    unfolding emitted emitBy
+    emit-first g e = rw (g, here, e)
 
-      pub emit-write : t .kind ≡ Write → emitted chip s p ≡ sends Opened p (pairCommand 0x40 t)
-      unfolding emitted emitBy emitReady
-      emit-write k = rw (g, here, k)
+    pub emit-block : p .stage ≡ Block → emitted chip s p ≡ sends (Commanded Erase) p (p .at) (blockCommand t (p .at))
+    unfolding emitted emitBy
+    emit-block g = rw (g, here)
 
-      pub emit-verify : t .kind ≡ Verify → emitted chip s p ≡ sends Opened p (pairCommand 0x13 t)
-      unfolding emitted emitBy emitReady
-      emit-verify k = rw (g, here, k)
-
-      pub emit-sum : t .kind ≡ Sum → emitted chip s p ≡ sends Summed p (pairCommand 0xB0 t)
-      unfolding emitted emitBy emitReady
-      emit-sum k = rw (g, here, k)
-
-    pub emit-page : p .stage ≡ Page → emitted chip s p ≡ sends Paged p (pageFrame s t (p .at))
+    pub emit-page : {k : Kind} → p .stage ≡ Page k → emitted chip s p ≡ sends (Paged k) p (p .at) (pageFrame s t (p .at))
     unfolding emitted emitBy
     emit-page g = rw (g, here)
 

@@ -1,137 +1,126 @@
--- Where a player stands: a player that is not lost is in a step of the sheet that awaits what its stage says. Assumes nothing.
-use mathlib.Core.Path.{_≡_, refl}
+-- Where a player stands: a player that is not lost is in a step of the sheet, of the kind begun, with its block or page. Assumes nothing.
+use mathlib.Core.Path.{_≡_, refl, sym, ap, _∙_}
 use mathlib.Core.Bool.{Bool, true, false, cond, not, _&&_, false≢true}
 use mathlib.Core.List.{List}
+use mathlib.Core.Logic.{_⊎_, inl, inr}
 use Prim.Native.Nat.{ℕ, _<_, _≤_}
-use lib.Dec.{ltb}
-use borrow.Author.Tests.{ltb-true, ltb-false, lt-ltb, le-ltb, not-false}
+use lib.Dec.{ltb, eqb}
+use borrow.Author.Tests.{ltb-true, ltb-false, lt-ltb, le-ltb, eqb-true, eq-eqb, not-false}
 use Rattle.rules.specs.declared.Chip.{Chip}
 use Rattle.rules.specs.declared.Kind.{Kind}
 use Rattle.rules.specs.declared.Kind.the-variants.{Erase, Write, Verify, Sum}
 use Rattle.rules.specs.declared.Player.{Player}
 use Rattle.rules.specs.declared.Refusal.the-variants.{P1, P2}
-use Rattle.rules.specs.declared.Stage.the-variants.{New, Ready, Erased, Opened, Summed, Page, Paged, Over}
+use Rattle.rules.specs.declared.Stage.the-variants.{New, Ready, Block, Commanded, Page, Paged, Over}
 use Rattle.rules.specs.declared.Step.{Step}
 use Rattle.rules.specs.declared.Verdict.{Verdict}
 use Rattle.rules.specs.declared.Verdict.the-variants.{Accepted, Refused}
 use Rattle.rules.specs.First.{andThen, first}
-use Rattle.rules.specs.Sheet.{count, stepAt, stepBlocks, stepPages, verdict}
-use Rattle.rules.specs.Player.{awaits, lostIn, lost, frameRoom, playerVerdict}
+use Rattle.rules.specs.Numbers.{kindNumber}
+use Rattle.rules.specs.Sheet.{kindOf, count, stepAt, stepBlocks, stepPages, verdict}
+use Rattle.rules.specs.Player.{stepIn, commandIn, pageIn, lostIn, lost, frameRoom, playerVerdict}
 use Rattle.rules.proofs.Sheet.{refused≢accepted}
 use Rattle.rules.proofs.Choices.{both}
 
--- ---- what a kind awaits ----
+-- ---- kinds ----
 
--- a step whose kind sends pages
+-- the number tells the kind
+numbered : (k : Kind) → kindOf (kindNumber k) ≡ k
+numbered Erase = refl
+numbered Write = refl
+numbered Verify = refl
+numbered Sum = refl
+
+same-kind : (a b : Kind) → kindNumber a ≡ kindNumber b → b ≡ a
+same-kind a b e = sym (numbered b) ∙ ap kindOf (sym e) ∙ numbered a
+
+-- the kinds that send pages
 abbrev pub Paging : Kind → Type 0
-Paging k = awaits k false true false ≡ true
+Paging k = (k ≡ Write) ⊎ (k ≡ Verify)
 
-await-block : (k : Kind) (b : Bool) → awaits k b false false ≡ true → (k ≡ Erase) × (b ≡ true)
-unfolding awaits
-await-block Erase b e = (refl, e)
-await-block Write b e = absurd (false≢true e)
-await-block Verify b e = absurd (false≢true e)
-await-block Sum b e = absurd (false≢true e)
+page-in : (k : Kind) (t : Step) (at : ℕ) → pageIn k t at ≡ true → Paging k × (at < stepPages t)
+unfolding pageIn
+page-in Erase t at e = absurd (false≢true e)
+page-in Write t at e = (inl refl, ltb-true at (stepPages t) e)
+page-in Verify t at e = (inr refl, ltb-true at (stepPages t) e)
+page-in Sum t at e = absurd (false≢true e)
 
-await-page : (k : Kind) (b : Bool) → awaits k false b false ≡ true → Paging k × (b ≡ true)
-unfolding awaits
-await-page Erase b e = absurd (false≢true e)
-await-page Write b e = (refl, e)
-await-page Verify b e = (refl, e)
-await-page Sum b e = absurd (false≢true e)
+in-page : (k : Kind) (t : Step) (at : ℕ) → Paging k → at < stepPages t → pageIn k t at ≡ true
+unfolding pageIn
+in-page k t at (inl e) h = rw (e, lt-ltb at (stepPages t) h)
+in-page k t at (inr e) h = rw (e, lt-ltb at (stepPages t) h)
 
-pub paging-write : {k : Kind} → k ≡ Write → Paging k
-unfolding awaits
-paging-write e = rw e
-
-pub paging-verify : {k : Kind} → k ≡ Verify → Paging k
-unfolding awaits
-paging-verify e = rw e
-
-await-first : (k : Kind) → awaits k true true true ≡ true
-unfolding awaits
-await-first Erase = refl
-await-first Write = refl
-await-first Verify = refl
-await-first Sum = refl
-
--- both tests that make up "not lost"
-tests : (a b : Bool) → not (a && b) ≡ false → (a ≡ true) × (b ≡ true)
-tests a b e = both a b (not-false (a && b) e)
+-- the first command frame is there in every step that has a block
+pub first-in : (k : Kind) (t : Step) → 0 < stepBlocks t → commandIn k t 0 ≡ true
+unfolding commandIn
+first-in Erase t h = lt-ltb 0 (stepBlocks t) h
+first-in Write t h = refl
+first-in Verify t h = refl
+first-in Sum t h = refl
 
 module _ (chip : Chip) (s : List ℕ) (p : Player) (t : Step) (here : stepAt chip s (p .step) ≡ t) where
   -- ---- not lost: what is known ----
 
+  -- of a step begun
+  begun : (k : Kind) (x : Bool) → not (stepIn k (count s) t p && x) ≡ false → (p .step < count s) × (t .kind ≡ k) × (x ≡ true)
+  begun k x e =
+      let a = both (stepIn k (count s) t p) x (not-false (stepIn k (count s) t p && x) e) in
+      let b = both (ltb (p .step) (count s)) (eqb (kindNumber k) (kindNumber (t .kind))) (a .0) in
+      (ltb-true (p .step) (count s) (b .0), same-kind k (t .kind) (eqb-true (kindNumber k) (kindNumber (t .kind)) (b .1)), a .1)
+
   module _ (h : lost chip s p ≡ false) where
-    pub ready-stands : p .stage ≡ Ready → (p .step < count s) × (t .kind ≡ Erase → p .at < stepBlocks t)
-    unfolding lost lostIn awaits
-    ready-stands g =
-        let a = tests (ltb (p .step) (count s)) (awaits (t .kind) (ltb (p .at) (stepBlocks t)) true true) (rw (g, here) at h) in
-        (ltb-true (p .step) (count s) (a .0), λ k. ltb-true (p .at) (stepBlocks t) (rw k at (a .1)))
+    pub block-stands : p .stage ≡ Block → (p .step < count s) × (t .kind ≡ Erase) × (p .at < stepBlocks t)
+    unfolding lost lostIn commandIn
+    block-stands g =
+        let a = begun Erase (ltb (p .at) (stepBlocks t)) (rw (g, here) at h) in
+        (a .0, a .1, ltb-true (p .at) (stepBlocks t) (a .2))
 
-    pub erased-stands : p .stage ≡ Erased → (p .step < count s) × (t .kind ≡ Erase) × (p .at < stepBlocks t)
-    unfolding lost lostIn
-    erased-stands g =
-        let a = tests (ltb (p .step) (count s)) (awaits (t .kind) (ltb (p .at) (stepBlocks t)) false false) (rw (g, here) at h) in
-        let b = await-block (t .kind) (ltb (p .at) (stepBlocks t)) (a .1) in
-        (ltb-true (p .step) (count s) (a .0), b .0, ltb-true (p .at) (stepBlocks t) (b .1))
+    module _ {k : Kind} where
+      pub commanded-stands : p .stage ≡ Commanded k → (p .step < count s) × (t .kind ≡ k) × (commandIn k t (p .at) ≡ true)
+      unfolding lost lostIn
+      commanded-stands g = begun k (commandIn k t (p .at)) (rw (g, here) at h)
 
-    pub opened-stands : p .stage ≡ Opened → (p .step < count s) × Paging (t .kind)
-    unfolding lost lostIn
-    opened-stands g =
-        let a = tests (ltb (p .step) (count s)) (awaits (t .kind) false true false) (rw (g, here) at h) in
-        (ltb-true (p .step) (count s) (a .0), a .1)
+      paging : not (stepIn k (count s) t p && pageIn k t (p .at)) ≡ false
+          → (p .step < count s) × (t .kind ≡ k) × Paging k × (p .at < stepPages t)
+      paging e =
+          let a = begun k (pageIn k t (p .at)) e in
+          let b = page-in k t (p .at) (a .2) in
+          (a .0, a .1, b .0, b .1)
 
-    pub summed-stands : p .stage ≡ Summed → p .step < count s
-    unfolding lost lostIn
-    summed-stands g =
-        ltb-true (p .step) (count s) (tests (ltb (p .step) (count s)) (awaits (t .kind) false false true) (rw (g, here) at h) .0)
+      pub page-stands : p .stage ≡ Page k → (p .step < count s) × (t .kind ≡ k) × Paging k × (p .at < stepPages t)
+      unfolding lost lostIn
+      page-stands g = paging (rw (g, here) at h)
 
-    at-page : not (ltb (p .step) (count s) && awaits (t .kind) false (ltb (p .at) (stepPages t)) false) ≡ false
-        → (p .step < count s) × Paging (t .kind) × (p .at < stepPages t)
-    at-page e =
-        let a = tests (ltb (p .step) (count s)) (awaits (t .kind) false (ltb (p .at) (stepPages t)) false) e in
-        let b = await-page (t .kind) (ltb (p .at) (stepPages t)) (a .1) in
-        (ltb-true (p .step) (count s) (a .0), b .0, ltb-true (p .at) (stepPages t) (b .1))
+      pub paged-stands : p .stage ≡ Paged k → (p .step < count s) × (t .kind ≡ k) × Paging k × (p .at < stepPages t)
+      unfolding lost lostIn
+      paged-stands g = paging (rw (g, here) at h)
 
-    pub page-stands : p .stage ≡ Page → (p .step < count s) × Paging (t .kind) × (p .at < stepPages t)
-    unfolding lost lostIn
-    page-stands g = at-page (rw (g, here) at h)
-
-    pub paged-stands : p .stage ≡ Paged → (p .step < count s) × Paging (t .kind) × (p .at < stepPages t)
-    unfolding lost lostIn
-    paged-stands g = at-page (rw (g, here) at h)
+    pub erased-stands : p .stage ≡ Commanded Erase → (p .step < count s) × (p .at < stepBlocks t)
+    unfolding commandIn
+    erased-stands g = let a = commanded-stands g in (a .0, ltb-true (p .at) (stepBlocks t) (a .2))
 
   -- ---- and when it is so ----
 
   module _ (l : p .step < count s) where
-    pub stands-ready : p .stage ≡ Ready → t .kind ≡ Erase → p .at < stepBlocks t → lost chip s p ≡ false
-    unfolding lost lostIn awaits
-    stands-ready g k a = rw (g, here, lt-ltb (p .step) (count s) l, k, lt-ltb (p .at) (stepBlocks t) a)
+    step-in : (k : Kind) → t .kind ≡ k → stepIn k (count s) t p ≡ true
+    step-in k e = rw (lt-ltb (p .step) (count s) l) (eq-eqb (kindNumber k) (kindNumber (t .kind)) (ap kindNumber (sym e)))
 
-    pub stands-first : p .stage ≡ Ready → p .at < stepBlocks t → lost chip s p ≡ false
-    unfolding lost lostIn
-    stands-first g a = rw (g, here, lt-ltb (p .step) (count s) l, lt-ltb (p .at) (stepBlocks t) a, await-first (t .kind))
+    pub stands-block : p .stage ≡ Block → t .kind ≡ Erase → p .at < stepBlocks t → lost chip s p ≡ false
+    unfolding lost lostIn commandIn
+    stands-block g e a = rw (g, here, step-in Erase e, lt-ltb (p .at) (stepBlocks t) a)
 
-    pub stands-erased : p .stage ≡ Erased → t .kind ≡ Erase → p .at < stepBlocks t → lost chip s p ≡ false
-    unfolding lost lostIn awaits
-    stands-erased g k a = rw (g, here, lt-ltb (p .step) (count s) l, k, lt-ltb (p .at) (stepBlocks t) a)
+    module _ {k : Kind} (e : t .kind ≡ k) where
+      pub stands-commanded : p .stage ≡ Commanded k → commandIn k t (p .at) ≡ true → lost chip s p ≡ false
+      unfolding lost lostIn
+      stands-commanded g a = rw (g, here, step-in k e, a)
 
-    pub stands-opened : p .stage ≡ Opened → Paging (t .kind) → lost chip s p ≡ false
-    unfolding lost lostIn
-    stands-opened g k = rw (g, here, lt-ltb (p .step) (count s) l, k)
+      pub stands-page : p .stage ≡ Page k → Paging k → p .at < stepPages t → lost chip s p ≡ false
+      unfolding lost lostIn
+      stands-page g w a = rw (g, here, step-in k e, in-page k t (p .at) w a)
 
-    pub stands-summed : p .stage ≡ Summed → t .kind ≡ Sum → lost chip s p ≡ false
-    unfolding lost lostIn awaits
-    stands-summed g k = rw (g, here, lt-ltb (p .step) (count s) l, k)
-
-    pub stands-page : p .stage ≡ Page → Paging (t .kind) → p .at < stepPages t → lost chip s p ≡ false
-    unfolding lost lostIn
-    stands-page g k a = rw (g, here, lt-ltb (p .step) (count s) l, lt-ltb (p .at) (stepPages t) a, k)
-
-    pub stands-paged : p .stage ≡ Paged → Paging (t .kind) → p .at < stepPages t → lost chip s p ≡ false
-    unfolding lost lostIn
-    stands-paged g k a = rw (g, here, lt-ltb (p .step) (count s) l, lt-ltb (p .at) (stepPages t) a, k)
+      pub stands-paged : p .stage ≡ Paged k → Paging k → p .at < stepPages t → lost chip s p ≡ false
+      unfolding lost lostIn
+      stands-paged g w a = rw (g, here, step-in k e, in-page k t (p .at) w a)
 
 -- the three grounds of a refusal
 
@@ -146,6 +135,15 @@ module _ (chip : Chip) (s : List ℕ) (p : Player) where
   pub stands-new : p .stage ≡ New → lost chip s p ≡ false
   unfolding lost lostIn
   stands-new g = rw g
+
+  -- at the beginning of a step only the step has to be there
+  pub ready-stands : lost chip s p ≡ false → p .stage ≡ Ready → p .step < count s
+  unfolding lost lostIn
+  ready-stands h g = ltb-true (p .step) (count s) (not-false (ltb (p .step) (count s)) (rw g at h))
+
+  pub stands-ready : p .step < count s → p .stage ≡ Ready → lost chip s p ≡ false
+  unfolding lost lostIn
+  stands-ready l g = rw (g, lt-ltb (p .step) (count s) l)
 
   pub stands-over : p .stage ≡ Over → lost chip s p ≡ false
   unfolding lost lostIn

@@ -7,13 +7,13 @@ use Rattle.rules.specs.declared.Kind.{Kind}
 use Rattle.rules.specs.declared.Kind.the-variants.{Erase, Write, Verify, Sum}
 use Rattle.rules.specs.declared.Player.{Player}
 use Rattle.rules.specs.declared.Stage.{Stage}
-use Rattle.rules.specs.declared.Stage.the-variants.{New, Ready, Erased, Opened, Summed, Page, Paged, Over}
+use Rattle.rules.specs.declared.Stage.the-variants.{New, Ready, Block, Commanded, Page, Paged, Over}
 use Rattle.rules.specs.declared.Step.{Step}
 use Rattle.rules.specs.declared.Verdict.{Verdict}
 use Rattle.rules.specs.declared.Verdict.the-variants.{Accepted, Refused}
 use Rattle.rules.specs.Chip.{pages}
 use Rattle.rules.specs.Sheet.{mostSteps, count, stepAt, stepBlocks, stepPages}
-use Rattle.rules.specs.Run.{mostFrom, mostCalls}
+use Rattle.rules.specs.Run.{mostFrames, mostFrom, mostCalls}
 use Rattle.rules.specs.Player.{playerVerdict, called}
 use lib.ListN.{length}
 
@@ -25,23 +25,23 @@ afterCalls chip s p buffer sums [] = p
 afterCalls chip s p buffer sums (r ∷ rs) =
     let c = called chip s p r buffer sums in afterCalls chip s (c .player) (c .frame) (c .sums) rs
 
+-- the frames of a step behind a command frame: the next blocks, the pages, or none
+unfoldable pub framesBehind : Kind → Step → ℕ → ℕ
+framesBehind Erase t at = stepBlocks t - (at + 1)
+framesBehind Write t at = stepPages t
+framesBehind Verify t at = stepPages t
+framesBehind Sum t at = 0
+
 -- how many calls are left at most: one for each frame that may still be sent, and one that has none to send;
 -- `later` is for the steps behind the one in hand, `all` for a new player
-unfoldable pub framesAt : Kind → Step → ℕ → ℕ
-framesAt Erase t at = stepBlocks t - at
-framesAt Write t at = 1 + stepPages t
-framesAt Verify t at = 1 + stepPages t
-framesAt Sum t at = 1
-
 unfoldable pub leftBy : Stage → Step → ℕ → ℕ → ℕ → ℕ
-unfolding framesAt
+unfolding framesBehind
 leftBy New t at later all = all
-leftBy Ready t at later all = 1 + framesAt (t .kind) t at + later
-leftBy Erased t at later all = 1 + (stepBlocks t - (at + 1)) + later
-leftBy Opened t at later all = 1 + stepPages t + later
-leftBy Summed t at later all = 1 + later
-leftBy Page t at later all = 1 + (stepPages t - at) + later
-leftBy Paged t at later all = 1 + (stepPages t - (at + 1)) + later
+leftBy Ready t at later all = 1 + mostFrames t + later
+leftBy Block t at later all = 1 + (stepBlocks t - at) + later
+leftBy (Commanded k) t at later all = 1 + framesBehind k t at + later
+leftBy (Page k) t at later all = 1 + (stepPages t - at) + later
+leftBy (Paged k) t at later all = 1 + (stepPages t - (at + 1)) + later
 leftBy Over t at later all = 0
 
 abbrev pub later : Chip → List ℕ → Player → ℕ
@@ -83,14 +83,20 @@ mostPages chip = max (pages chip Code) (pages chip Data)
 abbrev pub rankFrom : Chip → ℕ → ℕ
 rankFrom chip i = i * (mostPages chip + 1)
 
+unfoldable pub blocksBefore : Kind → ℕ → ℕ
+blocksBefore Erase at = at
+blocksBefore Write at = 0
+blocksBefore Verify at = 0
+blocksBefore Sum at = 0
+
 unfoldable pub rankBy : Stage → ℕ → ℕ → ℕ
+unfolding blocksBefore
 rankBy New from at = 0
 rankBy Ready from at = from
-rankBy Erased from at = 1 + from + at
-rankBy Opened from at = 1 + from
-rankBy Summed from at = 1 + from
-rankBy Page from at = 1 + from
-rankBy Paged from at = 2 + from + at
+rankBy Block from at = from + at
+rankBy (Commanded k) from at = 1 + from + blocksBefore k at
+rankBy (Page k) from at = 1 + from + at
+rankBy (Paged k) from at = 2 + from + at
 rankBy Over from at = 0
 
 unfoldable pub rank : Chip → Player → ℕ

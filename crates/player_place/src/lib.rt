@@ -4,52 +4,74 @@ use rules::Kind;
 use rules::Player;
 use rules::Stage;
 use rules::Step;
+use rules::numbers::kind_number;
 use sheet::steps::step_at;
 use sheet::steps::step_blocks;
 use sheet::steps::step_pages;
 use sheet::table::count;
 ghost use mathlib.Core.Path.{_≡_};
 ghost use mathlib.Core.Bool.{_&&_, not};
-ghost use Rattle.rules.specs.Player.{awaits, lostIn, lost};
+ghost use Rattle.rules.specs.Player.{stepIn, commandIn, pageIn, lostIn, lost};
 
-// What a step of that kind awaits: a block, a page or a sum.
-fn awaits(kind: Kind, block: bool, page: bool, sum: bool) -> bool
-    ensures { λ r. ⌜ r ≡ awaits kind block page sum ⌝ }
+// The step is there, and of the kind begun.
+fn step_in(kind: Kind, n: usize, t: Step, p: Player) -> bool
+    ensures { λ r. ⌜ r ≡ stepIn kind n t p ⌝ }
+{
+    if p.step < n {
+        let now = t.kind;
+        return kind_number(kind) == kind_number(now);
+    }
+    false
+}
+
+// The block of an erase, which has a command frame for each.
+fn command_in(kind: Kind, t: Step, at: usize) -> bool
+    ensures { λ r. ⌜ r ≡ commandIn kind t at ⌝ }
 {
     match kind {
-        Kind::Erase => block,
-        Kind::Write => page,
-        Kind::Verify => page,
-        Kind::Sum => sum,
+        Kind::Erase => at < step_blocks(t),
+        Kind::Write => true,
+        Kind::Verify => true,
+        Kind::Sum => true,
     }
 }
 
-fn missing(here: bool, awaited: bool) -> bool
-    ensures { λ r. ⌜ r ≡ not (here && awaited) ⌝ }
+// The page of a write or a verify.
+fn page_in(kind: Kind, t: Step, at: usize) -> bool
+    ensures { λ r. ⌜ r ≡ pageIn kind t at ⌝ }
 {
-    if here {
-        return !awaited;
+    match kind {
+        Kind::Erase => false,
+        Kind::Write => at < step_pages(t),
+        Kind::Verify => at < step_pages(t),
+        Kind::Sum => false,
+    }
+}
+
+fn missing(step: bool, piece: bool) -> bool
+    ensures { λ r. ⌜ r ≡ not (step && piece) ⌝ }
+{
+    if step {
+        return !piece;
     }
     true
 }
 
-// A player in step `t` of a sheet of n steps whose step, block or page is not there, or whose step does not await this.
+// A player in step `t` of a sheet of n steps that is not the step begun, or does not have its block or page.
 pub fn is_lost(n: usize, t: Step, p: Player) -> bool
     ensures { λ r. ⌜ r ≡ lostIn (p .stage) n t p ⌝ }
 {
-    let kind = t.kind;
     let stage = p.stage;
-    let here = p.step < n;
-    let block = p.at < step_blocks(t);
-    let page = p.at < step_pages(t);
     match stage {
         Stage::New => false,
-        Stage::Ready => missing(here, awaits(kind, block, true, true)),
-        Stage::Erased => missing(here, awaits(kind, block, false, false)),
-        Stage::Opened => missing(here, awaits(kind, false, true, false)),
-        Stage::Summed => missing(here, awaits(kind, false, false, true)),
-        Stage::Page => missing(here, awaits(kind, false, page, false)),
-        Stage::Paged => missing(here, awaits(kind, false, page, false)),
+        Stage::Ready => !(p.step < n),
+        Stage::Block => missing(
+            step_in(Kind::Erase, n, t, p),
+            command_in(Kind::Erase, t, p.at),
+        ),
+        Stage::Commanded(kind) => missing(step_in(kind, n, t, p), command_in(kind, t, p.at)),
+        Stage::Page(kind) => missing(step_in(kind, n, t, p), page_in(kind, t, p.at)),
+        Stage::Paged(kind) => missing(step_in(kind, n, t, p), page_in(kind, t, p.at)),
         Stage::Over => false,
     }
 }

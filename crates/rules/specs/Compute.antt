@@ -10,12 +10,12 @@ use Rattle.rules.specs.Command.{commands, rows, lookup, readAs, frameChe
 use Rattle.rules.specs.StandIn.{powered, Fed, onJudged, onCommand, pageFault, pageWritten, onPage, compared, onCompare, taskNow, onTask, onFrame, receive, takes, step, flashVerdict, lentVerdict, powerBy, powerOn, byteBy, byteCall, received, feed}
 use Rattle.rules.specs.Sheet.{headSize, count, mostBytes, lastKind, bodyLength, offsetDue, headVerdict, entryVerdict, entriesVerdict, sheetVerdict, verdict, stepOf, stepAt}
 use Rattle.rules.specs.Meaning.{eraseFrom, writeFrom, eraseDone, writeDone, stepDone, stepMeaning, meaningFrom, meaning, stepFramesFrom, stepFrames}
-use Rattle.rules.specs.Player.{framed, commandReply, sumReply, dataReply, finished, erasedBlock, openedPages, tookSum, sentPage, absorbBy, absorbed, counted, emitReady, emitBy, emitted, reportBy, reportOf, awaits, lostIn, lost, playerVerdict, played, callBy, called}
+use Rattle.rules.specs.Player.{framed, commandReply, sumReply, dataReply, finished, erasedBlock, openedPages, tookSum, sentPage, absorbBy, absorbed, counted, emitBy, emitted, reportBy, reportOf, lostIn, lost, playerVerdict, played, callBy, called, absorbCommand, firstCommand, commandIn, pageIn}
 use Rattle.rules.specs.Run.{allBytes, carried, takenIn, turned, runFrom, betweenIn, between, stepFrom, mostFor, mostFrames, mostFrom, run, stepRun, waitsIn, waits}
 use Rattle.rules.specs.Text.{digits, decimal, statusText, kindText, stepLine, endLine, refusedLine, stopped, lineAt, linesFrom, playText, verdictText}
 
 unfoldable pub everything : ℕ
-unfolding first total same blank over partOf putPart shown eraseAddress range checksum shownSF1 shownSF2 securitySet release windowSet shownFSWS shownFSWE shownSWS shownSWE eraseProtected writeProtected bodySize frameSize sumByte frame whole dataFault commands rows lookup readAs frameChecks orderChecks unless judgedOrder judged secured done onJudged onCommand pageFault pageWritten onPage compared onCompare taskNow onTask onFrame receive takes step flashVerdict lentVerdict powerBy powerOn byteBy byteCall received feed headSize count mostBytes lastKind bodyLength offsetDue headVerdict entryVerdict entriesVerdict sheetVerdict verdict stepOf stepAt eraseFrom writeFrom eraseDone writeDone stepDone stepMeaning meaningFrom meaning stepFramesFrom stepFrames framed commandReply sumReply dataReply finished erasedBlock openedPages tookSum sentPage absorbBy absorbed counted emitReady emitBy emitted reportBy reportOf awaits lostIn lost playerVerdict played callBy called allBytes carried takenIn turned runFrom betweenIn between stepFrom mostFor mostFrames mostFrom run stepRun waitsIn waits digits decimal statusText kindText stepLine endLine refusedLine stopped lineAt linesFrom playText verdictText
+unfolding first total same blank over partOf putPart shown eraseAddress range checksum shownSF1 shownSF2 securitySet release windowSet shownFSWS shownFSWE shownSWS shownSWE eraseProtected writeProtected bodySize frameSize sumByte frame whole dataFault commands rows lookup readAs frameChecks orderChecks unless judgedOrder judged secured done onJudged onCommand pageFault pageWritten onPage compared onCompare taskNow onTask onFrame receive takes step flashVerdict lentVerdict powerBy powerOn byteBy byteCall received feed headSize count mostBytes lastKind bodyLength offsetDue headVerdict entryVerdict entriesVerdict sheetVerdict verdict stepOf stepAt eraseFrom writeFrom eraseDone writeDone stepDone stepMeaning meaningFrom meaning stepFramesFrom stepFrames framed commandReply sumReply dataReply finished erasedBlock openedPages tookSum sentPage absorbBy absorbed counted emitBy emitted reportBy reportOf lostIn lost playerVerdict played callBy called allBytes carried takenIn turned runFrom betweenIn between stepFrom mostFor mostFrames mostFrom run stepRun waitsIn waits digits decimal statusText kindText stepLine endLine refusedLine stopped lineAt linesFrom playText verdictText absorbCommand firstCommand commandIn pageIn
 everything = 0
 
 -- (a) from stored options and flash: power-on, then the bytes; the answer after each byte, and the state after the last

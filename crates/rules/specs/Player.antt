@@ -13,7 +13,7 @@ use Rattle.rules.specs.declared.Kind.{Kind}
 use Rattle.rules.specs.declared.Kind.the-variants.{Erase, Write, Verify, Sum}
 use Rattle.rules.specs.declared.Step.{Step}
 use Rattle.rules.specs.declared.Stage.{Stage}
-use Rattle.rules.specs.declared.Stage.the-variants.{New, Ready, Erased, Opened, Summed, Page, Paged, Over}
+use Rattle.rules.specs.declared.Stage.the-variants.{New, Ready, Block, Commanded, Page, Paged, Over}
 use Rattle.rules.specs.declared.Status.{Status}
 use Rattle.rules.specs.declared.Status.the-variants.{Byte, L1}
 use Rattle.rules.specs.declared.Player.{Player}
@@ -25,6 +25,7 @@ use Rattle.rules.specs.Chip.{byteAt, wordAt, addressBytes, over, block, 
 use Rattle.rules.specs.Frame.{commandStart, dataStart, lastEnd, endDue, frame, addsUp}
 use Rattle.rules.specs.Command.{verifyCode, eraseCode, programmingCode, checksumCode}
 use Rattle.rules.specs.Sheet.{count, stepAt, stepBlocks, stepPages, bodyPage, verdict}
+use Rattle.rules.specs.Numbers.{kindNumber}
 
 abbrev pub player : Stage → ℕ → ℕ → ℕ → ℕ → Status → Player
 player g i a n k st = record { stage = g; step = i; at = a; frames = n; pieces = k; status = st }
@@ -105,32 +106,39 @@ pagesSure Sum at = 0
 
 unfoldable pub erasedBlock : List ℕ → Step → Player → List ℕ → List ℕ → Absorbed
 erasedBlock s t p r sums =
-    let on = cond (eqb (p .at + 1) (stepBlocks t)) (finished s p 0 sums) (goesOn Ready p (p .at + 1) sums) in
+    let on = cond (eqb (p .at + 1) (stepBlocks t)) (finished s p 0 sums) (goesOn Block p (p .at + 1) sums) in
     cond (isWell (commandReply r)) on (stopped p (commandReply r) (p .at) sums)
 
-unfoldable pub openedPages : Player → List ℕ → List ℕ → Absorbed
-openedPages p r sums = cond (isWell (commandReply r)) (goesOn Page p 0 sums) (stopped p (commandReply r) 0 sums)
+unfoldable pub openedPages : Kind → Player → List ℕ → List ℕ → Absorbed
+openedPages k p r sums = cond (isWell (commandReply r)) (goesOn (Page k) p 0 sums) (stopped p (commandReply r) 0 sums)
 
 unfoldable pub tookSum : List ℕ → Player → List ℕ → List ℕ → Absorbed
 tookSum s p r sums = cond (isWell (sumReply r)) (finished s p (sumIn r) sums) (stopped p (sumReply r) 0 sums)
 
-unfoldable pub sentPage : List ℕ → Step → Player → List ℕ → List ℕ → Absorbed
-sentPage s t p r sums =
-    let on = cond (eqb (p .at + 1) (stepPages t)) (finished s p 0 sums) (goesOn Page p (p .at + 1) sums) in
-    cond (isWell (dataReply r)) on (stopped p (dataReply r) (pagesSure (t .kind) (p .at)) sums)
+unfoldable pub sentPage : Kind → List ℕ → Step → Player → List ℕ → List ℕ → Absorbed
+sentPage k s t p r sums =
+    let on = cond (eqb (p .at + 1) (stepPages t)) (finished s p 0 sums) (goesOn (Page k) p (p .at + 1) sums) in
+    cond (isWell (dataReply r)) on (stopped p (dataReply r) (pagesSure k (p .at)) sums)
 
 -- "The first call of a play reads no reply"; all counts start at 0
 abbrev pub started : List ℕ → Player
 started s = player (beginning 0 (count s)) 0 0 0 0 well
 
+-- to a command frame, by the kind begun
+unfoldable pub absorbCommand : Kind → List ℕ → Step → Player → List ℕ → List ℕ → Absorbed
+absorbCommand Erase s t p r sums = erasedBlock s t p r sums
+absorbCommand Write s t p r sums = openedPages Write p r sums
+absorbCommand Verify s t p r sums = openedPages Verify p r sums
+absorbCommand Sum s t p r sums = tookSum s p r sums
+
 unfoldable pub absorbBy : Stage → List ℕ → Step → Player → List ℕ → List ℕ → Absorbed
+unfolding absorbCommand
 absorbBy New s t p r sums = absorbs (started s) sums
 absorbBy Ready s t p r sums = absorbs p sums
-absorbBy Erased s t p r sums = erasedBlock s t p r sums
-absorbBy Opened s t p r sums = openedPages p r sums
-absorbBy Summed s t p r sums = tookSum s p r sums
-absorbBy Page s t p r sums = absorbs p sums
-absorbBy Paged s t p r sums = sentPage s t p r sums
+absorbBy Block s t p r sums = absorbs p sums
+absorbBy (Commanded k) s t p r sums = absorbCommand k s t p r sums
+absorbBy (Page k) s t p r sums = absorbs p sums
+absorbBy (Paged k) s t p r sums = sentPage k s t p r sums
 absorbBy Over s t p r sums = absorbs p sums
 
 -- A REPLY IS TAKEN IN
@@ -148,10 +156,10 @@ pub record Sent : Type 0 where
 unfoldable pub counted : ℕ → ℕ
 counted n = cond (ltb n 0xFFFFFFFF) (n + 1) n
 
--- a frame is sent, and its answer awaited
-abbrev pub sends : Stage → Player → List ℕ → Sent
-sends g p bytes =
-    record { player = player g (p .step) (p .at) (counted (p .frames)) (p .pieces) (p .status); bytes = bytes }
+-- a frame is sent, at that block or page, and its answer awaited
+abbrev pub sends : Stage → Player → ℕ → List ℕ → Sent
+sends g p at bytes =
+    record { player = player g (p .step) at (counted (p .frames)) (p .pieces) (p .status); bytes = bytes }
 
 abbrev pub silent : Player → Sent
 silent p = record { player = p; bytes = [] }
@@ -170,21 +178,21 @@ blockCommand t at = command (eraseCode ∷ addressBytes (firstByte (t .flash) (b
 abbrev pub pageFrame : List ℕ → Step → ℕ → List ℕ
 pageFrame s t at = frame dataStart (endDue (eqb (at + 1) (stepPages t))) (bodyPage s t at)
 
-unfoldable pub emitReady : Kind → Step → Player → Sent
-emitReady Erase t p = sends Erased p (blockCommand t (p .at))
-emitReady Write t p = sends Opened p (pairCommand programmingCode t)
-emitReady Verify t p = sends Opened p (pairCommand verifyCode t)
-emitReady Sum t p = sends Summed p (pairCommand checksumCode t)
+-- the first frame of a step: which kind was begun is kept from here on
+unfoldable pub firstCommand : Kind → Step → List ℕ
+firstCommand Erase t = blockCommand t 0
+firstCommand Write t = pairCommand programmingCode t
+firstCommand Verify t = pairCommand verifyCode t
+firstCommand Sum t = pairCommand checksumCode t
 
 unfoldable pub emitBy : Stage → List ℕ → Step → Player → Sent
-unfolding emitReady
+unfolding firstCommand
 emitBy New s t p = silent p
-emitBy Ready s t p = emitReady (t .kind) t p
-emitBy Erased s t p = silent p
-emitBy Opened s t p = silent p
-emitBy Summed s t p = silent p
-emitBy Page s t p = sends Paged p (pageFrame s t (p .at))
-emitBy Paged s t p = silent p
+emitBy Ready s t p = sends (Commanded (t .kind)) p 0 (firstCommand (t .kind) t)
+emitBy Block s t p = sends (Commanded Erase) p (p .at) (blockCommand t (p .at))
+emitBy (Commanded k) s t p = silent p
+emitBy (Page k) s t p = sends (Paged k) p (p .at) (pageFrame s t (p .at))
+emitBy (Paged k) s t p = silent p
 emitBy Over s t p = silent p
 
 -- THE NEXT FRAME IS GIVEN
@@ -201,33 +209,43 @@ countsOf p = record { status = well; steps = p .step; frames = p .frames; pieces
 unfoldable pub reportBy : Stage → Player → Report
 reportBy New p = record { status = well; steps = 0; frames = 0; pieces = 0 }
 reportBy Ready p = countsOf p
-reportBy Erased p = countsOf p
-reportBy Opened p = countsOf p
-reportBy Summed p = countsOf p
-reportBy Page p = countsOf p
-reportBy Paged p = countsOf p
+reportBy Block p = countsOf p
+reportBy (Commanded k) p = countsOf p
+reportBy (Page k) p = countsOf p
+reportBy (Paged k) p = countsOf p
 reportBy Over p = record { status = p .status; steps = p .step; frames = p .frames; pieces = p .pieces }
 
 unfoldable pub reportOf : Player → Report
 unfolding reportBy
 reportOf p = reportBy (p .stage) p
 
--- P2: "an unfinished play whose step, block or page is not in the given sheet"; a step that does not await this is not it
-unfoldable pub awaits : Kind → Bool → Bool → Bool → Bool
-awaits Erase block page sum = block
-awaits Write block page sum = page
-awaits Verify block page sum = page
-awaits Sum block page sum = sum
+-- P2: "an unfinished play whose step, block or page is not in the given sheet". At the beginning of a step only the step has to be there;
+-- of a step begun, one of the same kind
+abbrev pub stepIn : Kind → ℕ → Step → Player → Bool
+stepIn k n t p = ltb (p .step) n && eqb (kindNumber k) (kindNumber (t .kind))
+
+-- the block of an erase, which has a command frame for each; the other kinds have one for the step
+unfoldable pub commandIn : Kind → Step → ℕ → Bool
+commandIn Erase t at = ltb at (stepBlocks t)
+commandIn Write t at = true
+commandIn Verify t at = true
+commandIn Sum t at = true
+
+-- the page of a write or a verify; the other kinds have none
+unfoldable pub pageIn : Kind → Step → ℕ → Bool
+pageIn Erase t at = false
+pageIn Write t at = ltb at (stepPages t)
+pageIn Verify t at = ltb at (stepPages t)
+pageIn Sum t at = false
 
 unfoldable pub lostIn : Stage → ℕ → Step → Player → Bool
-unfolding awaits
+unfolding commandIn pageIn
 lostIn New n t p = false
-lostIn Ready n t p = not (ltb (p .step) n && awaits (t .kind) (ltb (p .at) (stepBlocks t)) true true)
-lostIn Erased n t p = not (ltb (p .step) n && awaits (t .kind) (ltb (p .at) (stepBlocks t)) false false)
-lostIn Opened n t p = not (ltb (p .step) n && awaits (t .kind) false true false)
-lostIn Summed n t p = not (ltb (p .step) n && awaits (t .kind) false false true)
-lostIn Page n t p = not (ltb (p .step) n && awaits (t .kind) false (ltb (p .at) (stepPages t)) false)
-lostIn Paged n t p = not (ltb (p .step) n && awaits (t .kind) false (ltb (p .at) (stepPages t)) false)
+lostIn Ready n t p = not (ltb (p .step) n)
+lostIn Block n t p = not (stepIn Erase n t p && commandIn Erase t (p .at))
+lostIn (Commanded k) n t p = not (stepIn k n t p && commandIn k t (p .at))
+lostIn (Page k) n t p = not (stepIn k n t p && pageIn k t (p .at))
+lostIn (Paged k) n t p = not (stepIn k n t p && pageIn k t (p .at))
 lostIn Over n t p = false
 
 unfoldable pub lost : Chip → List ℕ → Player → Bool

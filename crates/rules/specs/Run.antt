@@ -2,11 +2,10 @@
 use Prim.Native.Nat.{ℕ, zero, suc, _+_}
 use mathlib.Core.Bool.{Bool, true, false, cond}
 use mathlib.Core.List.{List, [], _∷_, _++_}
-use lib.Dec.{eqb}
 use Rattle.rules.specs.declared.Chip.{Chip}
 use Rattle.rules.specs.declared.Player.{Player}
 use Rattle.rules.specs.declared.Stage.{Stage}
-use Rattle.rules.specs.declared.Stage.the-variants.{New, Ready, Erased, Opened, Summed, Page, Paged, Over}
+use Rattle.rules.specs.declared.Stage.the-variants.{New, Ready, Block, Commanded, Page, Paged, Over}
 use Rattle.rules.specs.declared.Phase.{Phase}
 use Rattle.rules.specs.declared.Phase.the-variants.{Mode, Speed, Ident, Command, Silent}
 use Rattle.rules.specs.declared.Task.{Task}
@@ -84,19 +83,18 @@ runFrom line chip s k (suc calls) j =
     cond (none (emitted chip s (j .player) .bytes)) (ran true j) later
 
 -- between two steps: at the beginning of one, or finished or stopped
-unfoldable pub betweenIn : Stage → ℕ → Bool
-betweenIn New at = false
-betweenIn Ready at = eqb at 0
-betweenIn Erased at = false
-betweenIn Opened at = false
-betweenIn Summed at = false
-betweenIn Page at = false
-betweenIn Paged at = false
-betweenIn Over at = true
+unfoldable pub betweenIn : Stage → Bool
+betweenIn New = false
+betweenIn Ready = true
+betweenIn Block = false
+betweenIn (Commanded k) = false
+betweenIn (Page k) = false
+betweenIn (Paged k) = false
+betweenIn Over = true
 
 unfoldable pub between : Player → Bool
 unfolding betweenIn
-between p = betweenIn (p .stage) (p .at)
+between p = betweenIn (p .stage)
 
 -- so many turns: a step ends at the one after which the player is between two steps
 unfoldable pub stepFrom : Line → Chip → List ℕ → ℕ → ℕ → Joined → Ran

@@ -3,9 +3,10 @@ use mathlib.Core.List.{List, [], _∷_, _++_}
 use mathlib.Core.Bool.{true}
 use Prim.Native.Nat.{ℕ}
 use lib.ListN.{set, take, replicate}
+use Rattle.rules.specs.declared.Kind.the-variants.{Erase, Write, Verify, Sum}
 use Rattle.rules.specs.declared.Options.{Options}
 use Rattle.rules.specs.declared.Player.{Player}
-use Rattle.rules.specs.declared.Stage.the-variants.{Erased, Opened, Summed, Page, Paged, Over}
+use Rattle.rules.specs.declared.Stage.the-variants.{Ready, Block, Commanded, Page, Paged, Over}
 use Rattle.rules.specs.declared.Status.the-variants.{Byte}
 use Rattle.rules.specs.declared.numbers.Number.{Number}
 use Rattle.rules.specs.Chip.{Memory, small}
@@ -426,11 +427,11 @@ calling s p reply room call status steps frames pieces =
 
 -- L1 at the second of three blocks: pieces 1
 abbrev unheard : List ℕ → Calling
-unheard reply = calling eraseThree (player Erased 0 1 2 0 well) reply 260 (plain 0) (L 1) 0 2 1
+unheard reply = calling eraseThree (player (Commanded Erase) 0 1 2 0 well) reply 260 (plain 0) (L 1) 0 2 1
 
 -- and to a sum
 abbrev unsummed : List ℕ → Calling
-unsummed reply = calling sumOne (player Summed 0 0 1 0 well) reply 260 (plain 0) (L 1) 0 1 0
+unsummed reply = calling sumOne (player (Commanded Sum) 0 0 1 0 well) reply 260 (plain 0) (L 1) 0 1 0
 
 unfoldable pub playerCalls : List Calling
 playerCalls =
@@ -439,22 +440,51 @@ playerCalls =
     ∷ calling eraseThree newPlayer [] 260 (plain 8) (plain 0x06) 0 1 0
     ∷ calling eraseThree newPlayer (0xFF ∷ []) 260 (plain 8) (plain 0x06) 0 1 0
     ∷ calling (0x00 ∷ []) newPlayer [] 259 (J 1) (plain 0x06) 0 0 0
-    -- P2: the step, the block or the page is not there, or the step awaits another thing; P1 before P2
-    ∷ calling eraseThree (player Erased 1 0 1 0 well) ack 260 (P 2) (plain 0x06) 1 1 0
-    ∷ calling eraseThree (player Erased 1 0 1 0 well) ack 259 (P 1) (plain 0x06) 1 1 0
-    ∷ calling eraseThree (player Erased 0 3 1 0 well) ack 260 (P 2) (plain 0x06) 0 1 0
-    ∷ calling eraseThree (player Opened 0 0 1 0 well) ack 260 (P 2) (plain 0x06) 0 1 0
-    ∷ calling eraseThree (player Summed 0 0 1 0 well) ack 260 (P 2) (plain 0x06) 0 1 0
-    ∷ calling writeThree (player Page 0 3 4 0 well) [] 260 (P 2) (plain 0x06) 0 4 0
-    ∷ calling writeThree (player Paged 0 3 4 0 well) [] 260 (P 2) (plain 0x06) 0 4 0
+    -- P2: the step, the block or the page is not there; P1 before P2
+    ∷ calling eraseThree (player (Commanded Erase) 1 0 1 0 well) ack 260 (P 2) (plain 0x06) 1 1 0
+    ∷ calling eraseThree (player (Commanded Erase) 1 0 1 0 well) ack 259 (P 1) (plain 0x06) 1 1 0
+    ∷ calling eraseThree (player Ready 1 0 1 0 well) [] 260 (P 2) (plain 0x06) 1 1 0
+    ∷ calling eraseThree (player (Commanded Erase) 0 3 1 0 well) ack 260 (P 2) (plain 0x06) 0 1 0
+    ∷ calling eraseThree (player Block 0 3 1 0 well) [] 260 (P 2) (plain 0x06) 0 1 0
+    ∷ calling writeThree (player (Page Write) 0 3 4 0 well) [] 260 (P 2) (plain 0x06) 0 4 0
+    ∷ calling writeThree (player (Paged Write) 0 3 4 0 well) [] 260 (P 2) (plain 0x06) 0 4 0
+    ∷ calling writeThree (player (Commanded Write) 1 0 1 0 well) ack 260 (P 2) (plain 0x06) 1 1 0
+    ∷ calling writeThree (player (Paged Write) 1 0 2 0 well) (pair 0x06 0x06) 260 (P 2) (plain 0x06) 1 2 0
+    -- P2: the step there is of another kind than the one begun, whatever the kinds, after a command and after a page
+    ∷ calling verifyThree (player (Commanded Write) 0 0 1 0 well) ack 260 (P 2) (plain 0x06) 0 1 0
+    ∷ calling writeThree (player (Commanded Verify) 0 0 1 0 well) ack 260 (P 2) (plain 0x06) 0 1 0
+    ∷ calling eraseThree (player (Commanded Write) 0 0 1 0 well) ack 260 (P 2) (plain 0x06) 0 1 0
+    ∷ calling sumOne (player (Commanded Verify) 0 0 1 0 well) ack 260 (P 2) (plain 0x06) 0 1 0
+    ∷ calling sumOne (player (Commanded Erase) 0 0 1 0 well) ack 260 (P 2) (plain 0x06) 0 1 0
+    ∷ calling writeThree (player (Commanded Erase) 0 0 1 0 well) ack 260 (P 2) (plain 0x06) 0 1 0
+    ∷ calling eraseThree (player (Commanded Sum) 0 0 1 0 well) (ack ++ pair 0x00 0x01) 260 (P 2) (plain 0x06) 0 1 0
+    ∷ calling verifyThree (player (Commanded Sum) 0 0 1 0 well) (ack ++ pair 0x00 0x01) 260 (P 2) (plain 0x06) 0 1 0
+    ∷ calling writeThree (player Block 0 1 1 0 well) [] 260 (P 2) (plain 0x06) 0 1 0
+    ∷ calling verifyThree (player (Page Write) 0 1 2 0 well) [] 260 (P 2) (plain 0x06) 0 2 0
+    ∷ calling verifyThree (player (Paged Write) 0 2 4 0 well) (pair 0x06 0x06) 260 (P 2) (plain 0x06) 0 4 0
+    ∷ calling writeThree (player (Paged Verify) 0 2 4 0 well) (pair 0x06 0x1C) 260 (P 2) (plain 0x06) 0 4 0
+    ∷ calling eraseThree (player (Paged Write) 0 0 2 0 well) (pair 0x06 0x06) 260 (P 2) (plain 0x06) 0 2 0
+    -- P2: a record that no first call leads to, with a page of a kind that has none
+    ∷ calling eraseThree (player (Page Erase) 0 0 1 0 well) [] 260 (P 2) (plain 0x06) 0 1 0
+    ∷ calling eraseThree (player (Paged Erase) 0 0 1 0 well) (pair 0x06 0x06) 260 (P 2) (plain 0x06) 0 1 0
+    ∷ calling sumOne (player (Page Sum) 0 0 1 0 well) [] 260 (P 2) (plain 0x06) 0 1 0
+    ∷ calling sumOne (player (Paged Sum) 0 0 1 0 well) (pair 0x06 0x06) 260 (P 2) (plain 0x06) 0 1 0
+    -- at the beginning of a step any kind is well, and it begins with its first block; the next block and the next page are sent
+    ∷ calling eraseThree (player Ready 0 0 0 0 well) [] 260 (plain 8) (plain 0x06) 0 1 0
+    ∷ calling eraseThree (player Ready 0 7 0 0 well) [] 260 (plain 8) (plain 0x06) 0 1 0
+    ∷ calling writeThree (player Ready 0 0 0 0 well) [] 260 (plain 11) (plain 0x06) 0 1 0
+    ∷ calling verifyThree (player Ready 0 0 0 0 well) [] 260 (plain 11) (plain 0x06) 0 1 0
+    ∷ calling sumOne (player Ready 0 0 0 0 well) [] 260 (plain 11) (plain 0x06) 0 1 0
+    ∷ calling eraseThree (player Block 0 2 2 0 well) [] 260 (plain 8) (plain 0x06) 0 3 0
+    ∷ calling writeThree (player (Page Write) 0 2 3 0 well) [] 260 (plain 260) (plain 0x06) 0 4 0
     -- finished or stopped: nothing is sent, and all stands; P1 still
     ∷ calling eraseThree (player Over 0 1 2 1 (Byte 0x10)) ack 260 (plain 0) (plain 0x10) 0 2 1
     ∷ calling eraseThree (player Over 0 1 2 1 (Byte 0x10)) ack 259 (P 1) (plain 0x10) 0 2 1
     -- an erase: on (also with pieces in the record), stopped in the middle by a reply, finished
-    ∷ calling eraseThree (player Erased 0 1 2 7 well) ack 260 (plain 8) (plain 0x06) 0 3 0
-    ∷ calling eraseThree (player Erased 0 1 2 0 well) ack 260 (plain 8) (plain 0x06) 0 3 0
-    ∷ calling eraseThree (player Erased 0 1 2 0 well) (one 0x10) 260 (plain 0) (plain 0x10) 0 2 1
-    ∷ calling eraseThree (player Erased 0 2 3 0 well) ack 260 (plain 0) (plain 0x06) 1 3 0
+    ∷ calling eraseThree (player (Commanded Erase) 0 1 2 7 well) ack 260 (plain 8) (plain 0x06) 0 3 0
+    ∷ calling eraseThree (player (Commanded Erase) 0 1 2 0 well) ack 260 (plain 8) (plain 0x06) 0 3 0
+    ∷ calling eraseThree (player (Commanded Erase) 0 1 2 0 well) (one 0x10) 260 (plain 0) (plain 0x10) 0 2 1
+    ∷ calling eraseThree (player (Commanded Erase) 0 2 3 0 well) ack 260 (plain 0) (plain 0x06) 1 3 0
     -- L1: no reply, one cut short, wrong start, LEN, SUM, end, one byte too many
     ∷ unheard []
     ∷ unheard (take 4 ack)
@@ -464,21 +494,23 @@ playerCalls =
     ∷ unheard (0x02 ∷ 0x01 ∷ 0x06 ∷ 0xF9 ∷ 0x17 ∷ [])
     ∷ unheard (ack ++ (0x00 ∷ []))
     -- a write: opened, refused, its first page answered; told of the page before, in the middle and at the end; finished; L1
-    ∷ calling writeThree (player Opened 0 0 1 0 well) ack 260 (plain 260) (plain 0x06) 0 2 0
-    ∷ calling writeThree (player Opened 0 0 1 0 well) (one 0x05) 260 (plain 0) (plain 0x05) 0 1 0
-    ∷ calling writeThree (player Paged 0 0 2 0 well) (pair 0x06 0x06) 260 (plain 260) (plain 0x06) 0 3 0
-    ∷ calling writeThree (player Paged 0 1 3 0 well) (pair 0x06 0x1C) 260 (plain 0) (plain 0x1C) 0 3 0
-    ∷ calling writeThree (player Paged 0 2 4 0 well) (pair 0x06 0x1C) 260 (plain 0) (plain 0x1C) 0 4 1
-    ∷ calling writeThree (player Paged 0 2 4 0 well) (pair 0x15 0x1C) 260 (plain 0) (plain 0x15) 0 4 1
-    ∷ calling writeThree (player Paged 0 2 4 0 well) (pair 0x06 0x06) 260 (plain 0) (plain 0x06) 1 4 0
-    ∷ calling writeThree (player Paged 0 0 2 0 well) [] 260 (plain 0) (L 1) 0 2 0
-    ∷ calling writeThree (player Paged 0 2 4 0 well) ack 260 (plain 0) (L 1) 0 4 1
-    -- a verify has no pieces
-    ∷ calling verifyThree (player Paged 0 2 4 0 well) (pair 0x06 0x0F) 260 (plain 0) (plain 0x0F) 0 4 0
+    ∷ calling writeThree (player (Commanded Write) 0 0 1 0 well) ack 260 (plain 260) (plain 0x06) 0 2 0
+    ∷ calling writeThree (player (Commanded Write) 0 0 1 0 well) (one 0x05) 260 (plain 0) (plain 0x05) 0 1 0
+    ∷ calling writeThree (player (Paged Write) 0 0 2 0 well) (pair 0x06 0x06) 260 (plain 260) (plain 0x06) 0 3 0
+    ∷ calling writeThree (player (Paged Write) 0 1 3 0 well) (pair 0x06 0x1C) 260 (plain 0) (plain 0x1C) 0 3 0
+    ∷ calling writeThree (player (Paged Write) 0 2 4 0 well) (pair 0x06 0x1C) 260 (plain 0) (plain 0x1C) 0 4 1
+    ∷ calling writeThree (player (Paged Write) 0 2 4 0 well) (pair 0x15 0x1C) 260 (plain 0) (plain 0x15) 0 4 1
+    ∷ calling writeThree (player (Paged Write) 0 2 4 0 well) (pair 0x06 0x06) 260 (plain 0) (plain 0x06) 1 4 0
+    ∷ calling writeThree (player (Paged Write) 0 0 2 0 well) [] 260 (plain 0) (L 1) 0 2 0
+    ∷ calling writeThree (player (Paged Write) 0 2 4 0 well) ack 260 (plain 0) (L 1) 0 4 1
+    -- a verify: opened, its first page answered; it has no pieces
+    ∷ calling verifyThree (player (Commanded Verify) 0 0 1 0 well) ack 260 (plain 260) (plain 0x06) 0 2 0
+    ∷ calling verifyThree (player (Paged Verify) 0 0 2 0 well) (pair 0x06 0x06) 260 (plain 260) (plain 0x06) 0 3 0
+    ∷ calling verifyThree (player (Paged Verify) 0 2 4 0 well) (pair 0x06 0x0F) 260 (plain 0) (plain 0x0F) 0 4 0
     -- a sum: its two frames (also with pieces in the record), refused, and L1
-    ∷ calling sumOne (player Summed 0 0 1 7 well) (ack ++ pair 0x00 0x01) 260 (plain 0) (plain 0x06) 1 1 0
-    ∷ calling sumOne (player Summed 0 0 1 0 well) (ack ++ pair 0x00 0x01) 260 (plain 0) (plain 0x06) 1 1 0
-    ∷ calling sumOne (player Summed 0 0 1 0 well) (one 0x05) 260 (plain 0) (plain 0x05) 0 1 0
+    ∷ calling sumOne (player (Commanded Sum) 0 0 1 7 well) (ack ++ pair 0x00 0x01) 260 (plain 0) (plain 0x06) 1 1 0
+    ∷ calling sumOne (player (Commanded Sum) 0 0 1 0 well) (ack ++ pair 0x00 0x01) 260 (plain 0) (plain 0x06) 1 1 0
+    ∷ calling sumOne (player (Commanded Sum) 0 0 1 0 well) (one 0x05) 260 (plain 0) (plain 0x05) 0 1 0
     ∷ unsummed ack
     ∷ unsummed (ack ++ ack)
     ∷ unsummed (ack ++ pair 0x00 0x01 ++ (0x00 ∷ []))

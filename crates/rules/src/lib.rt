@@ -162,16 +162,16 @@ pub struct Step {
     pub body: usize,
 }
 
-// What the player is about: New has sent nothing, Ready and Page are about to send, Over is finished or stopped;
-// the others wait for the answer to a block, to a write or verify command, to a sum and to a page.
+// What the player is about, and within a step the kind of the step that was begun. New has sent nothing. Ready is at the beginning of a step,
+// about to send its first frame; Block and Page are about to send block `at` of an erase and page `at` of a write or a verify.
+// Commanded waits for the answer to a command frame, Paged for the answer to page `at`. Over is finished or stopped.
 pub enum Stage {
     New,
     Ready,
-    Erased,
-    Opened,
-    Summed,
-    Page,
-    Paged,
+    Block,
+    Commanded(Kind),
+    Page(Kind),
+    Paged(Kind),
     Over,
 }
 

@@ -1,7 +1,8 @@
-// 01's own name of each refusal: what is printed of it, and what a digest takes of it.
+// 01's own name of each refusal: what is printed of it, and what a digest takes of it; and its number of each kind of step.
+use super::Kind;
 use super::Refusal;
 ghost use mathlib.Core.Path.{_≡_};
-ghost use Rattle.rules.specs.Numbers.{refusalNumber};
+ghost use Rattle.rules.specs.Numbers.{refusalNumber, kindNumber};
 
 // A letter of 01's names by its ASCII code (0 for none), and the number behind it.
 pub struct Number {
@@ -60,5 +61,17 @@ pub fn refusal_number(refusal: Refusal) -> Number
     Number {
         letter: letter_of(refusal),
         number: number_of(refusal),
+    }
+}
+
+// By it two kinds are compared.
+pub fn kind_number(kind: Kind) -> u8
+    ensures { λ r. ⌜ r ≡ kindNumber kind ⌝ }
+{
+    match kind {
+        Kind::Erase => 1,
+        Kind::Write => 2,
+        Kind::Verify => 3,
+        Kind::Sum => 4,
     }
 }

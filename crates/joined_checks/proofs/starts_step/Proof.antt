@@ -2,7 +2,7 @@
 use mathlib.Core.Path.{sym, ap, _∙_}
 use borrow.Author.Tests.{not-true, not-false}
 use Rattle.rules.specs.Run.{mostFrames}
-use Rattle.joined_checks.proofs.Starting.{not-ready, not-at-0, by-frames}
+use Rattle.joined_checks.proofs.Starting.{not-ready, by-frames}
 use borrow.Author.Needs.{needs}
 use Rattle.joined_checks.proofs.starts_step.Statement.{statement}
 use Rattle.joined_checks.proofs.starts_step.Tie as tie
@@ -14,17 +14,10 @@ returns c =
 
 returns-2 : tie.Need-returns-2
 returns-2 c =
-    let e = c .before .before in
-    let a = e .before .before .before .args in
-    sym (not-at-0 (a .chip) (a .sheet .now) (a .p) (sym (e .before .is-ready .ensures) ∙ not-false _ (e .if1 .left)) (c .if2 .taken))
-
-returns-3 : tie.Need-returns-3
-returns-3 c =
     let m = c .before in
-    let f = m .before .before in
-    let e = f .before .before in
+    let e = m .before .before in
     let a = e .before .before .before .args in
-    by-frames (a .chip) (a .sheet .now) (a .p) (sym (e .before .is-ready .ensures) ∙ not-false _ (e .if1 .left)) (f .if2 .left)
+    by-frames (a .chip) (a .sheet .now) (a .p) (sym (e .before .is-ready .ensures) ∙ not-false _ (e .if1 .left))
     (m .most-frames .result) (m .most-frames .ensures .0 ∙ ap mostFrames (m .before .step-at .ensures)) (m .most-frames .ensures .1)
 
 pub starts-step-spec : {M : Type 1} → statement M
@@ -33,8 +26,7 @@ starts-step-spec =
     (tie.spec
     (λ c κs. search needs)
     returns
-    returns-2
     (λ c κs. search needs)
     (λ c κs. search needs)
     (λ c. search needs)
-    returns-3)
+    returns-2)

@@ -10,7 +10,7 @@ use Rattle.rules.specs.declared.Step.{Step}
 use Rattle.rules.specs.Sheet.{count, stepAt}
 use Rattle.rules.specs.Player.{absorbed, absorbBy}
 use Rattle.sheet.proofs.Fields.{few-steps}
-use Rattle.player_laws.proofs.PlaceInSheet.{erased-stands, summed-stands, paged-stands}
+use Rattle.player_laws.proofs.PlaceInSheet.{commanded-stands, paged-stands}
 use borrow.Author.Needs.{needs}
 use Rattle.player_absorb.proofs.absorb_in.Statement.{statement}
 use Rattle.player_absorb.proofs.absorb_in.Tie as tie
@@ -25,32 +25,23 @@ by-stage chip s p r sums {g = g} {t = t} e h =
 few : (c : tie.After-shared-slice-known) → count (c .before .args .sheet .now) < 65536
 few c = few-steps (c .before .args .sheet .now) (λ i. c .shared-slice-known .given i .fits)
 
-erased-block-requires : tie.Need-erased-block-requires
-erased-block-requires c κs =
-    let x = c .before in
+absorb-command-requires : tie.Need-absorb-command-requires
+absorb-command-requires c κs =
+    let x = c .before .before in
     let k = x .before .before .before .before in
     let s = k .before in
     let a = s .args in
-    let e = erased-stands (a .chip) (a .sheet .now) (a .p) (a .t) (s .pre .0) (s .pre .1) (x .enum-told3 .given .1) in
+    let e = commanded-stands (a .chip) (a .sheet .now) (a .p) (a .t) (s .pre .0) (s .pre .1) (x .stage .given .1) in
     (omega (arith, e .0, few k), e .2)
-
-took-sum-requires : tie.Need-took-sum-requires
-took-sum-requires c κs =
-    let x = c .before in
-    let k = x .before .before .before .before in
-    let s = k .before in
-    let a = s .args in
-    let e = summed-stands (a .chip) (a .sheet .now) (a .p) (a .t) (s .pre .0) (s .pre .1) (x .enum-told5 .given .1) in
-    omega (arith, e, few k)
 
 sent-page-requires : tie.Need-sent-page-requires
 sent-page-requires c κs =
-    let x = c .before in
+    let x = c .before .before in
     let k = x .before .before .before .before in
     let s = k .before in
     let a = s .args in
-    let e = paged-stands (a .chip) (a .sheet .now) (a .p) (a .t) (s .pre .0) (s .pre .1) (x .enum-told7 .given .1) in
-    (omega (arith, e .0, few k), e .2)
+    let e = paged-stands (a .chip) (a .sheet .now) (a .p) (a .t) (s .pre .0) (s .pre .1) (x .stage2 .given .1) in
+    (omega (arith, e .0, few k), e .3)
 
 returns : tie.Need-returns
 unfolding absorbed absorbBy
@@ -62,42 +53,33 @@ returns-2 c = rw (c .enum-told2 .given .1)
 
 returns-3 : tie.Need-returns-3
 unfolding absorbed absorbBy
-returns-3 c =
-    let x = c .before .before in
-    let s = x .before .before .before .before .before .before .before in
-    let a = s .args in
-    x .erased-block .ensures ∙ by-stage (a .chip) (a .sheet .now) (a .p) (a .reply .now) (a .sums .now) (x .before .before .enum-told3 .given .1) (s .pre .0)
+returns-3 c = rw (c .enum-told3 .given .1)
 
 returns-4 : tie.Need-returns-4
 unfolding absorbed absorbBy
 returns-4 c =
-    let s = c .before .before .before .before .before .before in
+    let x = c .before .before in
+    let g = x .before .before .before in
+    let s = g .before .before .before .before .before in
     let a = s .args in
-    c .opened-pages .ensures _ ∙ by-stage (a .chip) (a .sheet .now) (a .p) (a .reply .now) (a .sums .now) (c .before .enum-told4 .given .1) (s .pre .0)
+    x .absorb-command .ensures ∙ by-stage (a .chip) (a .sheet .now) (a .p) (a .reply .now) (a .sums .now) (g .stage .given .1) (s .pre .0)
 
 returns-5 : tie.Need-returns-5
 unfolding absorbed absorbBy
-returns-5 c =
-    let x = c .before .before in
-    let s = x .before .before .before .before .before .before .before in
-    let a = s .args in
-    x .took-sum .ensures ∙ by-stage (a .chip) (a .sheet .now) (a .p) (a .reply .now) (a .sums .now) (x .before .before .enum-told5 .given .1) (s .pre .0)
+returns-5 c = rw (c .enum-told4 .given .1)
 
 returns-6 : tie.Need-returns-6
 unfolding absorbed absorbBy
-returns-6 c = rw (c .enum-told6 .given .1)
+returns-6 c =
+    let x = c .before .before in
+    let g = x .before .before .before in
+    let s = g .before .before .before .before .before in
+    let a = s .args in
+    x .sent-page .ensures ∙ by-stage (a .chip) (a .sheet .now) (a .p) (a .reply .now) (a .sums .now) (g .stage2 .given .1) (s .pre .0)
 
 returns-7 : tie.Need-returns-7
 unfolding absorbed absorbBy
-returns-7 c =
-    let x = c .before .before in
-    let s = x .before .before .before .before .before .before .before in
-    let a = s .args in
-    x .sent-page .ensures ∙ by-stage (a .chip) (a .sheet .now) (a .p) (a .reply .now) (a .sums .now) (x .before .before .enum-told7 .given .1) (s .pre .0)
-
-returns-8 : tie.Need-returns-8
-unfolding absorbed absorbBy
-returns-8 c = rw (c .enum-told8 .given .1)
+returns-7 c = rw (c .enum-told5 .given .1)
 
 pub absorb-in-spec : {M : Type 1} → statement M
 absorb-in-spec =
@@ -107,23 +89,18 @@ absorb-in-spec =
     (λ c κs. search needs)
     (λ c. search needs)
     (λ c. search needs)
-    erased-block-requires
     (λ c. search needs)
-    (λ c κs. search needs)
-    (λ c. search needs)
-    took-sum-requires
+    absorb-command-requires
     (λ c. search needs)
     (λ c. search needs)
     sent-page-requires
     (λ c. search needs)
     returns
     returns-2
-    (λ c. search needs)
     returns-3
+    (λ c. search needs)
     returns-4
-    (λ c. search needs)
     returns-5
-    returns-6
     (λ c. search needs)
-    returns-7
-    returns-8)
+    returns-6
+    returns-7)

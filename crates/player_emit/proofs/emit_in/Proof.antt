@@ -1,25 +1,25 @@
 -- `player_emit::emit_in` meets its contract, stage by stage. Assumes nothing.
 use mathlib.Core.Path.{sym, ap, _∙_}
 use Rattle.rules.specs.declared.Stage.{Stage}
-use Rattle.player_laws.proofs.PlaceInSheet.{ready-stands, page-stands}
+use Rattle.player_laws.proofs.PlaceInSheet.{block-stands, page-stands}
 use Rattle.player_emit.specs.Emitting.{emittedIntoBy}
 use borrow.Author.Needs.{needs}
 use Rattle.player_emit.proofs.emit_in.Statement.{statement}
 use Rattle.player_emit.proofs.emit_in.Tie as tie
 
-emit-ready-requires : tie.Need-emit-ready-requires
-emit-ready-requires c κs =
+emit-block-requires : tie.Need-emit-block-requires
+emit-block-requires c κs =
     let x = c .before in
     let s = x .before .before .before .before in
     let a = s .args in
-    (s .pre .0, ready-stands (a .chip) (a .sheet .now) (a .p) (a .t) (s .pre .1) (s .pre .2) (x .enum-told2 .given .1) .1)
+    (s .pre .0, block-stands (a .chip) (a .sheet .now) (a .p) (a .t) (s .pre .1) (s .pre .2) (x .enum-told3 .given .1) .2)
 
 emit-page-requires : tie.Need-emit-page-requires
 emit-page-requires c κs =
-    let x = c .before in
+    let x = c .before .before in
     let s = x .before .before .before .before in
     let a = s .args in
-    (s .pre .0, page-stands (a .chip) (a .sheet .now) (a .p) (a .t) (s .pre .1) (s .pre .2) (x .enum-told6 .given .1) .2)
+    (s .pre .0, page-stands (a .chip) (a .sheet .now) (a .p) (a .t) (s .pre .1) (s .pre .2) (x .stage .given .1) .3)
 
 returns : tie.Need-returns
 unfolding emittedIntoBy
@@ -30,34 +30,34 @@ unfolding emittedIntoBy
 returns-2 c =
     let x = c .before .before in
     let a = x .before .before .before .before .before .before .args in
-    x .emit-ready .ensures ∙ ap (λ (g : Stage). emittedIntoBy g (a .sheet .now) (a .t) (a .p) (a .frame .now)) (sym (x .before .before .enum-told2 .given .1))
+    x .emit-first .ensures ∙ ap (λ (g : Stage). emittedIntoBy g (a .sheet .now) (a .t) (a .p) (a .frame .now)) (sym (x .before .before .enum-told2 .given .1))
 
 returns-3 : tie.Need-returns-3
 unfolding emittedIntoBy
-returns-3 c = rw (c .nothing2 .ensures, c .before .enum-told3 .given .1)
+returns-3 c =
+    let x = c .before .before in
+    let a = x .before .before .before .before .before .before .args in
+    x .emit-block .ensures ∙ ap (λ (g : Stage). emittedIntoBy g (a .sheet .now) (a .t) (a .p) (a .frame .now)) (sym (x .before .before .enum-told3 .given .1))
 
 returns-4 : tie.Need-returns-4
 unfolding emittedIntoBy
-returns-4 c = rw (c .nothing3 .ensures, c .before .enum-told4 .given .1)
+returns-4 c = rw (c .nothing2 .ensures, c .before .enum-told4 .given .1)
 
 returns-5 : tie.Need-returns-5
 unfolding emittedIntoBy
-returns-5 c = rw (c .nothing4 .ensures, c .before .enum-told5 .given .1)
+returns-5 c =
+    let x = c .before .before in
+    let g = x .before .before .before in
+    let a = g .before .before .before .before .args in
+    x .emit-page .ensures ∙ ap (λ (g : Stage). emittedIntoBy g (a .sheet .now) (a .t) (a .p) (a .frame .now)) (sym (g .stage .given .1))
 
 returns-6 : tie.Need-returns-6
 unfolding emittedIntoBy
-returns-6 c =
-    let x = c .before .before in
-    let a = x .before .before .before .before .before .before .args in
-    x .emit-page .ensures ∙ ap (λ (g : Stage). emittedIntoBy g (a .sheet .now) (a .t) (a .p) (a .frame .now)) (sym (x .before .before .enum-told6 .given .1))
+returns-6 c = rw (c .nothing3 .ensures, c .before .enum-told5 .given .1)
 
 returns-7 : tie.Need-returns-7
 unfolding emittedIntoBy
-returns-7 c = rw (c .nothing5 .ensures, c .before .enum-told7 .given .1)
-
-returns-8 : tie.Need-returns-8
-unfolding emittedIntoBy
-returns-8 c = rw (c .nothing6 .ensures, c .before .enum-told8 .given .1)
+returns-7 c = rw (c .nothing4 .ensures, c .before .enum-told6 .given .1)
 
 pub emit-in-spec : {M : Type 1} → statement M
 emit-in-spec =
@@ -66,11 +66,9 @@ emit-in-spec =
     (λ c. search needs)
     (λ c κs. search needs)
     (λ c. search needs)
-    emit-ready-requires
-    (λ c. search needs)
     (λ c κs. search needs)
     (λ c. search needs)
-    (λ c κs. search needs)
+    emit-block-requires
     (λ c. search needs)
     (λ c κs. search needs)
     (λ c. search needs)
@@ -82,10 +80,10 @@ emit-in-spec =
     returns
     (λ c. search needs)
     returns-2
+    (λ c. search needs)
     returns-3
     returns-4
-    returns-5
     (λ c. search needs)
+    returns-5
     returns-6
-    returns-7
-    returns-8)
+    returns-7)

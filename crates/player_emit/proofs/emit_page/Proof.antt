@@ -16,7 +16,7 @@ returns : tie.Need-returns
 returns c =
     let x = c .before .before in
     let a = x .before .before .before .args in
-    rw (c .nothing .ensures) (sym (page-not (a .sheet .now) (a .t) (a .p) (a .frame .now) (sym (x .page-there .ensures) ∙ not-true _ (c .before .if1 .taken))))
+    rw (c .nothing .ensures) (sym (page-not (a .kind) (a .sheet .now) (a .t) (a .p) (a .frame .now) (sym (x .page-there .ensures) ∙ not-true _ (c .before .if1 .taken))))
 
 there : (c : tie.Else1) → let a = c .before .before .before .before .args in pageThere (a .sheet .now) (a .t) (a .p .at) ≡ true
 there c = sym (c .before .page-there .ensures) ∙ not-false _ (c .if1 .left)
@@ -37,7 +37,7 @@ returns-2 c =
     let new = pageFrame (a .sheet .now) (a .t) (a .p .at) in
     gave-put (c .sending .result) new (a .frame .now) (page-short (a .sheet .now) (a .t) (a .p .at) (a .frame .now) (s .pre .0)) _ _ (x .page-frame .ensures)
     ∙ ap (λ (q : Player). emitting q (length new) (over new (a .frame .now))) (c .sending .ensures)
-    ∙ sym (page-is (a .sheet .now) (a .t) (a .p) (a .frame .now) (there y))
+    ∙ sym (page-is (a .kind) (a .sheet .now) (a .t) (a .p) (a .frame .now) (there y))
 
 pub emit-page-spec : {M : Type 1} → statement M
 emit-page-spec =

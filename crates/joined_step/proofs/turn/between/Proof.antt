@@ -10,7 +10,7 @@ returns c = rw (c .enum-told .given .1)
 
 returns-2 : tie.Need-returns-2
 unfolding between betweenIn
-returns-2 c = rw (c .before .enum-told2 .given .1)
+returns-2 c = rw (c .enum-told2 .given .1)
 
 returns-3 : tie.Need-returns-3
 unfolding between betweenIn
@@ -32,15 +32,10 @@ returns-7 : tie.Need-returns-7
 unfolding between betweenIn
 returns-7 c = rw (c .enum-told7 .given .1)
 
-returns-8 : tie.Need-returns-8
-unfolding between betweenIn
-returns-8 c = rw (c .enum-told8 .given .1)
-
 pub between-spec : {M : Type 1} → statement M
 between-spec =
     tie.close
     (tie.spec
-    (λ c. search needs)
     (λ c. search needs)
     (λ c. search needs)
     (λ c. search needs)
@@ -54,5 +49,4 @@ between-spec =
     returns-4
     returns-5
     returns-6
-    returns-7
-    returns-8)
+    returns-7)

@@ -31,11 +31,7 @@ returns-6 c = c .counts-of5 .ensures ∙ rw (c .before .enum-told6 .given .1)
 
 returns-7 : tie.Need-returns-7
 unfolding reportOf reportBy
-returns-7 c = c .counts-of6 .ensures ∙ rw (c .before .enum-told7 .given .1)
-
-returns-8 : tie.Need-returns-8
-unfolding reportOf reportBy
-returns-8 c = rw (c .enum-told8 .given .1)
+returns-7 c = rw (c .enum-told7 .given .1)
 
 pub report-spec : {M : Type 1} → statement M
 report-spec =
@@ -53,13 +49,10 @@ report-spec =
     (λ c. search needs)
     (λ c κs. search needs)
     (λ c. search needs)
-    (λ c κs. search needs)
-    (λ c. search needs)
     returns
     returns-2
     returns-3
     returns-4
     returns-5
     returns-6
-    returns-7
-    returns-8)
+    returns-7)

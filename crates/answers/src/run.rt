@@ -5,6 +5,7 @@ use text_lines::lines::bad_line;
 use text_lines::lines::line_length;
 use text_lines::lines::room_for_bytes;
 use text_lines::part;
+use text_play::told::play_told;
 use text_script::chip;
 use text_script::chip::State;
 use text_script::script_line;
@@ -33,11 +34,11 @@ fn play(
     data: &mut [u8],
 ) -> State {
     let c = chip.core;
-    let core = text_play::play(sheet, c, held, code, data);
-    State {
-        on: chip.on,
-        core: core,
-    }
+    let mut text = [0u8; text_told::ROOM];
+    let told = play_told(chip_finder::small(), sheet, c, held, code, data, &mut text);
+    io::write_all(1, part::between(&text, 0, told.size));
+    let core = told.core;
+    State { on: chip.on, core }
 }
 
 // What a line does to the chip; one of a sheet, and a bad one, do nothing.

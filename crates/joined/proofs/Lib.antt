@@ -2,3 +2,4 @@ pub mod Calls
 pub mod Means
 pub mod Outcomes
 pub mod Through
+pub mod FromPowerOn

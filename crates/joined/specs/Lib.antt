@@ -1,2 +1,3 @@
 pub mod Plays
 pub mod Ready
+pub mod CameTo

@@ -1,6 +1,7 @@
 pub mod Frames
 pub mod FramesHeard
 pub mod LengthsKept
+pub mod MeaningBounds
 pub mod MeaningSteps
 pub mod Opened
 pub mod PowerOn

@@ -68,7 +68,7 @@ module _ (chip : Chip) (s : List ℕ) (i : ℕ) (t : Step) (k : Sound chip s i t
 
   -- ---- the frames of a step ----
 
-  few-frames : Sized chip → mostFrames t ≤ 65537
+  pub few-frames : Sized chip → mostFrames t ≤ 65537
   unfolding mostFrames mostFor
   few-frames sized = go (t .kind)
     where

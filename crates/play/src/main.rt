@@ -1,38 +1,19 @@
-// The sheet player: reads a sheet from standard input, plays it to a fresh chip and prints the play.
+// The program: a sheet from standard input, played to a fresh chip, and the text of the play on standard output. What stands in the buffer that is
+// written is promised by `play_fresh` for every input.
 mod input;
 
 use input::Input;
-use standin::call::off;
-use standin::call::power_on;
-use standin::opening::open;
 use text_lines::part;
-
-// The sheet played to a fresh chip that was powered on and opened.
-fn play(sheet: &[u8]) {
-    let chip = chip_finder::small();
-    let mut code = [0xFFu8; 32768];
-    let mut data = [0xFFu8; 2048];
-    let mut answers = [0u8; 32];
-    let powered = power_on(off(chip), chip_options::read::fresh(), &code, &data);
-    let mut device = powered.device;
-    let core = device.core;
-    let opened = open(
-        chip,
-        core,
-        &[0xFF; 10],
-        &mut device.held,
-        &mut code,
-        &mut data,
-        &mut answers,
-    );
-    let waiting = opened.core;
-    text_play::play(sheet, waiting, &mut device.held, &mut code, &mut data);
-}
+use text_play::fresh::play_fresh;
 
 fn main() {
     let mut sheet = input::room();
+    let mut text = [0u8; text_told::ROOM];
     match input::read(&mut sheet) {
-        Input::Read(n) => play(part::between(&sheet, 0, n)),
+        Input::Read(n) => {
+            let size = play_fresh(part::between(&sheet, 0, n), &mut text);
+            io::write_all(1, part::between(&text, 0, size));
+        }
         Input::Failed => {
             io::write_all(2, b"play: the input cannot be read\n");
         }

@@ -18,13 +18,20 @@ use Rattle.rules.specs.declared.Verdict.the-variants.{Accepted}
 use Rattle.rules.specs.declared.Verdict.the-variants as v
 use Rattle.rules.specs.Sheet.{verdict}
 use Rattle.rules.specs.First.{first}
-use Rattle.rules.specs.Player.{Absorbed, absorbs, absorbed, emitted, reportOf, lost, frameRoom, playerVerdict, calls, nextOf, played, called}
+use Rattle.rules.specs.Numbers.{nextNumber, statusNumber}
+use Rattle.rules.specs.Player.{Called, Absorbed, absorbs, absorbed, emitted, reportOf, lost, frameRoom, playerVerdict, calls, nextOf, played, called}
 use Rattle.player_laws.proofs.Moves.{call-refused, call-played}
 use Rattle.player_laws.proofs.CallAdvances.{absorbed-stands}
 use Rattle.player_laws.proofs.PlaceInSheet.{call-allowed}
 use Rattle.player_absorb.specs.Absorbing.{absorbedIn}
 use Rattle.player_emit.specs.Emitting.{Emitting, emitting, emittingBy, emittedInto}
 use Rattle.player_emit.proofs.EmittedInto.{into-emitted}
+
+-- calls that are the same answer and report by the same numbers
+pub numbered : (x y : Called) → x ≡ y
+    → (x ≡ y) × ((nextNumber (x .call) ≡ nextNumber (y .call)) × (statusNumber (x .report .status) ≡ statusNumber (y .report .status)))
+numbered x y e =
+    (e, (ap (λ (c : Called). nextNumber (c .call)) e, ap (λ (c : Called). statusNumber (c .report .status)) e))
 
 -- the answer of a call by the bytes given
 next-is : (bytes : List ℕ) → cond (eqb (length bytes) 0) End (Frame (length bytes)) ≡ nextOf bytes

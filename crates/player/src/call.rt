@@ -14,6 +14,7 @@ ghost use mathlib.Core.Path.{_≡_};
 ghost use mathlib.Core.Bool.{cond};
 ghost use lib.Dec.{eqb};
 ghost use Rattle.rules.specs.declared.Next.the-variants.{Refused, Frame, End};
+ghost use Rattle.rules.specs.Numbers.{nextNumber, statusNumber};
 ghost use Rattle.rules.specs.Player.{reportOf, called};
 ghost use Rattle.player.specs.Calls.{calledAs};
 
@@ -54,6 +55,8 @@ pub fn next(
     sums: &mut [u16],
 ) -> Called
     ensures { λ r. ⌜ calledAs r (now (frame .exit)) (now (sums .exit)) ≡ called chip (now (sheet .entry)) p (now (reply .entry)) (now (frame .entry)) (now (sums .entry)) ⌝ }
+    ensures { λ r. ⌜ nextNumber (r .next) ≡ nextNumber (called chip (now (sheet .entry)) p (now (reply .entry)) (now (frame .entry)) (now (sums .entry)) .call) ⌝ }
+    ensures { λ r. ⌜ statusNumber (r .report .status) ≡ statusNumber (called chip (now (sheet .entry)) p (now (reply .entry)) (now (frame .entry)) (now (sums .entry)) .report .status) ⌝ }
 {
     if let Verdict::Refused(refusal) = verdict(chip, sheet, sums.len()) {
         return stands(p, refusal);

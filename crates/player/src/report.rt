@@ -4,6 +4,7 @@ use rules::Report;
 use rules::Stage;
 use rules::Status;
 ghost use mathlib.Core.Path.{_≡_};
+ghost use Rattle.rules.specs.Numbers.{statusNumber};
 ghost use Rattle.rules.specs.Player.{countsOf, reportOf};
 
 fn counts_of(p: Player) -> Report
@@ -19,6 +20,7 @@ fn counts_of(p: Player) -> Report
 
 pub fn report(p: Player) -> Report
     ensures { λ r. ⌜ r ≡ reportOf p ⌝ }
+    ensures { λ r. ⌜ statusNumber (r .status) ≡ statusNumber (reportOf p .status) ⌝ }
 {
     let stage = p.stage;
     let status = p.status;

@@ -13,6 +13,7 @@ use rules::Refusal;
 use rules::Verdict;
 ghost use mathlib.Core.Path.{_≡_};
 ghost use Prim.Native.Nat.{ℕ};
+ghost use Rattle.rules.specs.Numbers.{verdictNumber};
 ghost use Rattle.rules.specs.Sheet.{mostBytes, lastKind, offsetDue, J9, headVerdict, entryVerdict, entriesVerdict, sheetVerdict, verdict};
 ghost use Rattle.sheet.specs.Entry.{entryIn};
 
@@ -128,6 +129,7 @@ pub fn sheet_verdict(chip: Chip, sheet: &[u8]) -> Verdict
 // The verdict on a sheet, with room for so many sums: its own rules, then J10.
 pub fn verdict(chip: Chip, sheet: &[u8], room: usize) -> Verdict
     ensures { λ r. ⌜ r ≡ verdict chip (now (sheet .entry)) room ⌝ }
+    ensures { λ r. ⌜ verdictNumber r ≡ verdictNumber (verdict chip (now (sheet .entry)) room) ⌝ }
 {
     if let Verdict::Refused(refusal) = sheet_verdict(chip, sheet) {
         return Verdict::Refused(refusal);

@@ -6,11 +6,12 @@ use crate::table::count;
 use rules::Chip;
 use rules::Verdict;
 ghost use mathlib.Core.Path.{_≡_};
-ghost use Rattle.sheet.specs.Reading.{readingAt};
+ghost use Rattle.sheet.specs.Reading.{readingAt, readingNumber};
 
 // Step i of an accepted sheet.
 pub fn read_step(chip: Chip, sheet: &[u8], i: usize) -> Reading
     ensures { λ r. ⌜ r ≡ readingAt chip (now (sheet .entry)) i ⌝ }
+    ensures { λ r. ⌜ readingNumber r ≡ readingNumber (readingAt chip (now (sheet .entry)) i) ⌝ }
 {
     if let Verdict::Refused(_) = sheet_verdict(chip, sheet) {
         return Reading::NoStep;

@@ -9,10 +9,18 @@ use Rattle.rules.specs.declared.Chip.{Chip}
 use Rattle.rules.specs.declared.Call.{Call}
 use Rattle.rules.specs.declared.Call.the-variants.{Refused, Answer}
 use Rattle.rules.specs.declared.Refusal.{Refusal}
-use Rattle.rules.specs.StandIn.{State, Outcome, byteCall}
+use Rattle.rules.specs.declared.Verdict.the-variants as v
+use Rattle.rules.specs.Numbers.{callNumber}
+use Rattle.rules.specs.StandIn.{State, Outcome, replyRoom, flashVerdict, byteCall}
 use Rattle.standin_engine.specs.View.{callOutcome}
-use Rattle.standin.specs.Feeding.{feeding, goesOn, feedFrom}
+use Rattle.standin.specs.Feeding.{Feeding, feeding, goesOn, feedFrom}
+use Rattle.standin_state.proofs.Lending.{all-lent}
 use Rattle.standin_engine.proofs.Lengths.{call-fits}
+use Rattle.standin_engine.proofs.Receives.{taken}
+
+-- two feedings that are the same answer by the same number
+pub numbered : (a b : Feeding) → a ≡ b → (a ≡ b) × (callNumber (a .call) ≡ callNumber (b .call))
+numbered a b e = (e, ap (λ (f : Feeding). callNumber (f .call)) e)
 
 module _ (chip : Chip) (s : State) (out : List ℕ) (w i : ℕ) where
   pub fed-end : (bytes : List ℕ) → length bytes ≤ i → feeding s (Answer w) i out ≡ feedFrom chip s out w i (drop i bytes)
@@ -48,3 +56,14 @@ module _ (chip : Chip) (s : State) (out : List ℕ) (w i : ℕ) where
     -- an answer has room in what is left of the buffer
     pub answer-room : (k : ℕ) → call ≡ Answer k → k ≤ length (drop w out)
     answer-room k e = call-fits chip s (drop w out) (getD bytes i 0) .answer k (ap (λ (o : Outcome). o .call) (sym came-so) ∙ e)
+
+    -- and never more than 16 bytes
+    pub answer-short : (k : ℕ) → call ≡ Answer k → k ≤ 16
+    answer-short k e = call-fits chip s (drop w out) (getD bytes i 0) .short k (ap (λ (o : Outcome). o .call) (sym came-so) ∙ e)
+
+    -- with flashes that are the chip's and room for an answer the byte is taken
+    pub room-answers : flashVerdict chip (length (s .memory .code)) (length (s .memory .«data»)) ≡ v.Accepted → replyRoom ≤ length (drop w out)
+        → callNumber call .letter ≡ 0
+    room-answers f r =
+        ap (λ (o : Outcome). callNumber (o .call) .letter)
+        (came-so ∙ sym (taken chip s (getD bytes i 0) (drop w out) (sym (all-lent chip (length (s .memory .code)) (length (s .memory .«data»)) (length (drop w out)) f r))))

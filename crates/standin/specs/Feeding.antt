@@ -1,12 +1,14 @@
 -- Feeding a slice of bytes: one byte call after the other, each with the rest of the buffer for its answer. Assumes nothing.
-use Prim.Native.Nat.{ℕ, _+_}
+use Prim.Native.Nat.{ℕ, _+_, _*_, _≤_}
+use mathlib.Core.Path.{_≡_}
 use mathlib.Core.List.{List, [], _∷_, _++_}
-use lib.ListN.{take, drop}
+use lib.ListN.{length, take, drop}
 use Rattle.rules.specs.declared.Chip.{Chip}
 use Rattle.rules.specs.declared.Call.{Call}
 use Rattle.rules.specs.declared.Call.the-variants.{Refused, Answer}
+use Rattle.rules.specs.declared.Verdict.the-variants as verdict
 use Rattle.rules.specs.Chip.{Memory}
-use Rattle.rules.specs.StandIn.{State, byteCall}
+use Rattle.rules.specs.StandIn.{State, replyRoom, flashVerdict, byteCall}
 use Rattle.standin_engine.specs.View.{view}
 use Rattle.standin.specs.declared.feeding.Fed.{Fed}
 
@@ -39,3 +41,8 @@ feedFrom chip s out w n (b ∷ bs) =
 -- FEEDING, from an empty buffer of answers
 abbrev pub fedInto : Chip → State → List ℕ → List ℕ → Feeding
 fedInto chip s out bytes = feedFrom chip s out 0 0 bytes
+
+-- the flashes are the chip's, and the buffer has the room that a byte call asks for, for each byte
+abbrev pub Roomy : Chip → List ℕ → List ℕ → List ℕ → List ℕ → Type 0
+Roomy chip code dat out bytes =
+    (flashVerdict chip (length code) (length dat) ≡ verdict.Accepted) × (replyRoom * length bytes ≤ length out)

@@ -10,9 +10,11 @@ ghost use mathlib.Core.Path.{_≡_};
 ghost use Rattle.rules.specs.declared.Phase.the-variants.{Silent};
 ghost use Rattle.rules.specs.declared.Task.the-variants.{Idle};
 ghost use Rattle.rules.specs.Chip.{Memory};
+ghost use Rattle.rules.specs.Numbers.{callNumber};
 ghost use Rattle.rules.specs.Options.{freshOptions};
 ghost use Rattle.rules.specs.StandIn.{byteCall, powerOn, rest};
 ghost use Rattle.chip_finder.specs.LentFlashes.{memory};
+ghost use Rattle.standin_engine.specs.Stands.{Stands};
 ghost use Rattle.standin.specs.Shows.{shows, answeredAs, poweredAs};
 
 // The record between two calls: which chip it is, the small state, and the bytes of the frame in hand.
@@ -49,6 +51,8 @@ pub fn off(chip: Chip) -> Device
 pub fn power_on(d: Device, o: Options, code: &[u8], data: &[u8]) -> Answered
     ensures { λ r. ⌜ r .device .chip ≡ d .chip ⌝ }
     ensures { λ r. ⌜ poweredAs r (memory (now (code .entry)) (now («data» .entry))) ≡ powerOn (d .chip) (shows d (memory (now (code .entry)) (now («data» .entry)))) o (memory (now (code .entry)) (now («data» .entry))) ⌝ }
+    ensures { λ r. ⌜ callNumber (r .call) ≡ callNumber (powerOn (d .chip) (shows d (memory (now (code .entry)) (now («data» .entry)))) o (memory (now (code .entry)) (now («data» .entry))) .call) ⌝ }
+    ensures { λ r. ⌜ Stands (callNumber (r .call)) d (r .device) ⌝ }
 {
     let chip = d.chip;
     if let Verdict::Refused(refusal) = standin_state::lent::flash_verdict(
@@ -80,6 +84,8 @@ pub fn byte_call(
 ) -> Answered
     ensures { λ r. ⌜ r .device .chip ≡ d .chip ⌝ }
     ensures { λ r. ⌜ answeredAs r (memory (now (code .exit)) (now («data» .exit))) (now (reply .exit)) ≡ byteCall (d .chip) (shows d (memory (now (code .entry)) (now («data» .entry)))) (now (reply .entry)) byte ⌝ }
+    ensures { λ r. ⌜ callNumber (r .call) ≡ callNumber (byteCall (d .chip) (shows d (memory (now (code .entry)) (now («data» .entry)))) (now (reply .entry)) byte .call) ⌝ }
+    ensures { λ r. ⌜ Stands (callNumber (r .call)) d (r .device) ⌝ }
 {
     let mut e = d;
     let chip = e.chip;

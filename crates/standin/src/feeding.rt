@@ -4,9 +4,10 @@ use rules::Chip;
 use standin_engine::Change;
 use standin_state::Core;
 ghost use mathlib.Core.Path.{_≡_};
+ghost use Rattle.rules.specs.Numbers.{callNumber};
 ghost use Rattle.chip_finder.specs.LentFlashes.{memory};
 ghost use Rattle.standin_engine.specs.View.{view};
-ghost use Rattle.standin.specs.Feeding.{fedAs, fedInto};
+ghost use Rattle.standin.specs.Feeding.{fedAs, fedInto, Roomy};
 
 // The device after the bytes, how many bytes it answered or the first refusal, and how many bytes it took.
 pub struct Fed {
@@ -16,7 +17,8 @@ pub struct Fed {
 }
 
 // Every answer stands in `answers`, one behind the other; a byte call has the rest of that buffer for its reply, so the feeding ends
-// with D3 where fewer than 16 bytes are left.
+// with D3 where fewer than 16 bytes are left. A byte that is refused leaves record and receive buffer as after the bytes before it,
+// and as they were given where it is the first; with 16 bytes of room for each byte none is refused.
 pub fn feed(
     chip: Chip,
     c: Core,
@@ -27,6 +29,9 @@ pub fn feed(
     answers: &mut [u8],
 ) -> Fed
     ensures { λ r. ⌜ fedAs r (now (held .exit)) (memory (now (code .exit)) (now («data» .exit))) (now (answers .exit)) ≡ fedInto chip (view c (now (held .entry)) (memory (now (code .entry)) (now («data» .entry)))) (now (answers .entry)) (now (bytes .entry)) ⌝ }
+    ensures { λ r. ⌜ callNumber (r .call) ≡ callNumber (fedInto chip (view c (now (held .entry)) (memory (now (code .entry)) (now («data» .entry)))) (now (answers .entry)) (now (bytes .entry)) .call) ⌝ }
+    ensures { λ r. ⌜ (r .taken ≡ 0 → (r .core ≡ c) × (now (held .exit) ≡ now (held .entry))) ⌝ }
+    ensures { λ r. ⌜ (Roomy chip (now (code .entry)) (now («data» .entry)) (now (answers .entry)) (now (bytes .entry)) → callNumber (r .call) .letter ≡ 0) ⌝ }
 {
     let mut core = c;
     let mut w = 0;

@@ -1,14 +1,24 @@
 // The opening: a chip that was powered on is brought to phase Command.
 use super::feeding;
+use rules::Call;
 use rules::Chip;
+use rules::Refusal;
+use rules::Verdict;
 use standin_state::Core;
 ghost use mathlib.Core.Path.{_≡_};
 ghost use mathlib.Core.List.{_∷_, _++_};
+ghost use lib.ListN.{length};
+ghost use Rattle.rules.specs.declared.Verdict.the-variants.{Accepted};
 ghost use Rattle.rules.specs.Frame.{frame};
+ghost use Rattle.rules.specs.Numbers.{callNumber};
 ghost use Rattle.chip_finder.specs.LentFlashes.{memory};
 ghost use Rattle.standin_engine.specs.View.{view};
-ghost use Rattle.standin.specs.Feeding.{fedAs, fedInto};
-ghost use Rattle.standin.specs.Opening.{speedBytes, openingBytes};
+ghost use Rattle.standin_engine.specs.Stands.{Stands};
+ghost use Rattle.standin.specs.Feeding.{fedAs};
+ghost use Rattle.standin.specs.Opening.{speedBytes, openingVerdict, opened};
+
+// The least bytes of the buffer of answers: 16 for each of the 23 bytes with an ID.
+pub const OPENING_ROOM: usize = 368;
 
 // 9Ch and the ID: the body of its frame.
 fn ident_body(id: &[u8; 10]) -> [u8; 11]
@@ -54,7 +64,21 @@ fn all_bytes(id: &[u8; 10]) -> [u8; 23]
     bytes
 }
 
-// The bytes are fed: mode 3Ah, 9Ah with BRT 0 and VDD 21h, and 9Ch with that ID where the chip asks for one.
+// D1, D2, then D3 by the length of the buffer of answers.
+fn opening_verdict(chip: Chip, code: usize, data: usize, answers: usize) -> Verdict
+    ensures { λ r. ⌜ r ≡ openingVerdict chip code «data» answers ⌝ }
+{
+    if let Verdict::Refused(refusal) = standin_state::lent::flash_verdict(chip, code, data) {
+        return Verdict::Refused(refusal);
+    }
+    if answers < OPENING_ROOM {
+        return Verdict::Refused(Refusal::D3);
+    }
+    Verdict::Accepted
+}
+
+// The bytes are fed: mode 3Ah, 9Ah with BRT 0 and VDD 21h, and 9Ch with that ID where the chip asks for one. What would be refused on
+// the way is refused before the first byte, so a refused opening leaves all as it was.
 pub fn open(
     chip: Chip,
     c: Core,
@@ -64,8 +88,24 @@ pub fn open(
     data: &mut [u8],
     answers: &mut [u8],
 ) -> feeding::Fed
-    ensures { λ r. ⌜ fedAs r (now (held .exit)) (memory (now (code .exit)) (now («data» .exit))) (now (answers .exit)) ≡ fedInto chip (view c (now (held .entry)) (memory (now (code .entry)) (now («data» .entry)))) (now (answers .entry)) (openingBytes (c .options) (now (id .entry))) ⌝ }
+    ensures { λ r. ⌜ fedAs r (now (held .exit)) (memory (now (code .exit)) (now («data» .exit))) (now (answers .exit)) ≡ opened chip (view c (now (held .entry)) (memory (now (code .entry)) (now («data» .entry)))) (now (answers .entry)) (now (id .entry)) ⌝ }
+    ensures { λ r. ⌜ callNumber (r .call) ≡ callNumber (opened chip (view c (now (held .entry)) (memory (now (code .entry)) (now («data» .entry)))) (now (answers .entry)) (now (id .entry)) .call) ⌝ }
+    ensures { λ r. ⌜ Stands (callNumber (r .call)) c (r .core) ⌝ }
+    ensures { λ r. ⌜ Stands (callNumber (r .call)) (now (held .entry)) (now (held .exit)) ⌝ }
+    ensures { λ r. ⌜ (openingVerdict chip (length (now (code .entry))) (length (now («data» .entry))) (length (now (answers .entry))) ≡ Accepted → callNumber (r .call) .letter ≡ 0) ⌝ }
 {
+    if let Verdict::Refused(refusal) = opening_verdict(
+        chip,
+        code.len(),
+        data.len(),
+        answers.len(),
+    ) {
+        return feeding::Fed {
+            core: c,
+            call: Call::Refused(refusal),
+            taken: 0,
+        };
+    }
     let bytes = all_bytes(id);
     let all: &[u8] = &bytes;
     let o = c.options;

@@ -71,15 +71,20 @@ pub step-short : (chip : Chip) (s : State) (b : ℕ) → length (step chip s b .
 unfolding step
 step-short chip s b = takes-short (s .phase) chip s b
 
--- an outcome that answers no more than the buffer holds
+-- an outcome that answers no more than the buffer holds, and never more than 16 bytes
 pub record Fitting (reply : List ℕ) (o : Outcome) : Type 0 where
   pub answer : (n : ℕ) → o .call ≡ Answer n → n ≤ length reply
+  pub short : (n : ℕ) → o .call ≡ Answer n → n ≤ 16
 
 refused-fits : (reply : List ℕ) (s : State) (r : Refusal) → Fitting reply (callOutcome s (Refused r) reply)
-refused-fits reply s r = record { answer = λ n e. absurd (let z : _≡_ {A = ℕ} 0 1 = cc in omega arith) }
+refused-fits reply s r =
+    let no : (n : ℕ) → Refused r ≡ Answer n → ⊥ = λ n e. let z : _≡_ {A = ℕ} 0 1 = cc in omega arith in
+    record { answer = λ n e. absurd (no n e); short = λ n e. absurd (no n e) }
 
 taken-fits : (reply : List ℕ) (o : Out) → length (o .answer) ≤ 16 → 16 ≤ length reply → Fitting reply (answered o reply)
-taken-fits reply o h r = record { answer = λ n e. let same : length (o .answer) ≡ n = cc in omega arith }
+taken-fits reply o h r =
+    let told : (n : ℕ) → Answer (length (o .answer)) ≡ Answer n → n ≤ 16 = λ n e. let same : length (o .answer) ≡ n = cc in omega arith in
+    record { answer = λ n e. omega (arith, told n e); short = told }
 
 pub call-fits : (chip : Chip) (s : State) (reply : List ℕ) (b : ℕ) → Fitting reply (byteCall chip s reply b)
 unfolding byteCall byteBy

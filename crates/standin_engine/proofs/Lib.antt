@@ -1,3 +1,4 @@
 pub mod Begun
 pub mod Lengths
 pub mod Receives
+pub mod Stays

@@ -14,11 +14,13 @@ ghost use lib.ListN.{length};
 ghost use Rattle.rules.specs.declared.Call.the-variants.{Answer};
 ghost use Rattle.rules.specs.Chip.{Memory};
 ghost use Rattle.rules.specs.Frame.{frameSize, lenOf};
+ghost use Rattle.rules.specs.Numbers.{callNumber};
 ghost use Rattle.rules.specs.StandIn.{byteCall, receive, answered, received};
 ghost use Rattle.chip_finder.specs.LentFlashes.{memory};
 ghost use Rattle.standin_state.specs.View.{Fits};
 ghost use Rattle.standin_engine.specs.View.{view, callOutcome, heldCount, holds, listening};
-ghost use Rattle.standin_engine.specs.Change.{changeOutcome, coreOutcome};
+ghost use Rattle.standin_engine.specs.Change.{callOf, changeOutcome, coreOutcome};
+ghost use Rattle.standin_engine.specs.Stands.{Stands};
 
 mod frames;
 
@@ -129,6 +131,7 @@ pub fn byte_change(
     reply: &mut [u8],
 ) -> Change
     ensures { λ r. ⌜ changeOutcome c r (now (held .exit)) (memory (now (code .exit)) (now («data» .exit))) (now (reply .exit)) ≡ byteCall chip (view c (now (held .entry)) (memory (now (code .entry)) (now («data» .entry)))) (now (reply .entry)) byte ⌝ }
+    ensures { λ r. ⌜ Stands (callNumber (callOf r)) (now (held .entry)) (now (held .exit)) ⌝ }
 {
     // asked for its length, the buffer is known to have 260 bytes
     let whole: &[u8] = &*held;
@@ -168,6 +171,8 @@ pub fn byte_core(
     reply: &mut [u8],
 ) -> CoreAfter
     ensures { λ r. ⌜ coreOutcome r (now (held .exit)) (memory (now (code .exit)) (now («data» .exit))) (now (reply .exit)) ≡ byteCall chip (view c (now (held .entry)) (memory (now (code .entry)) (now («data» .entry)))) (now (reply .entry)) byte ⌝ }
+    ensures { λ r. ⌜ Stands (callNumber (r .call)) c (r .core) ⌝ }
+    ensures { λ r. ⌜ Stands (callNumber (r .call)) (now (held .entry)) (now (held .exit)) ⌝ }
 {
     let changed = byte_change(chip, c, byte, held, code, data, reply);
     match changed {

@@ -8,12 +8,12 @@ use Rattle.joined_checks.proofs.refusal.Statement.{statement}
 use Rattle.joined_checks.proofs.refusal.Tie as tie
 
 judged : (c : tie.After-enum-told) → let a = c .before .before .before .before .args in verdict (a .chip) (a .sheet .now) (a .lent .sums) ≡ Accepted
-judged c = sym (c .before .before .verdict .ensures) ∙ c .enum-told .given .1
+judged c = sym (c .before .before .verdict .ensures .0) ∙ c .enum-told .given .1
 
 returns : tie.Need-returns
 returns c =
     let a = c .before .before .before .before .before .args in
-    sym (named-J (a .chip) (a .sheet .now) (a .p) (a .lent) _ (sym (c .before .before .before .verdict .ensures) ∙ c .before .refusal .given .1))
+    sym (named-J (a .chip) (a .sheet .now) (a .p) (a .lent) _ (sym (c .before .before .before .verdict .ensures .0) ∙ c .before .refusal .given .1))
 
 returns-2 : tie.Need-returns-2
 returns-2 c =

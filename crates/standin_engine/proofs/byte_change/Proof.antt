@@ -1,5 +1,5 @@
 -- `standin_engine::byte_change` meets its contract. Assumes nothing.
-use mathlib.Core.Path.{_≡_, sym, ap, _∙_}
+use mathlib.Core.Path.{_≡_, refl, sym, ap, _∙_}
 use native.Mathlib.Omega.{arith}
 use lib.ListN.{length}
 use denote.Ref.{now}
@@ -8,13 +8,14 @@ use Rattle.rules.specs.declared.Phase.{Phase}
 use Rattle.rules.specs.declared.Task.the-variants.{Idle}
 use Rattle.rules.specs.declared.Call.the-variants.{Answer}
 use Rattle.rules.specs.declared.Verdict.the-variants.{Accepted}
-use Rattle.rules.specs.StandIn.{Out, answered, lentVerdict, step, byteCall, rest, received, afterMode}
+use Rattle.rules.specs.StandIn.{Out, Outcome, answered, lentVerdict, step, byteCall, rest, received, afterMode}
 use Rattle.chip_finder.specs.LentFlashes.{memory}
 use Rattle.standin_state.specs.declared.Core.{Core}
 use Rattle.standin_state.specs.View.{resting}
 use Rattle.standin_state.proofs.Lending.{lent-fits}
 use Rattle.standin_engine.specs.View.{view, callOutcome}
 use Rattle.standin_engine.proofs.Receives.{refused-byte, taken, unanswered, silent-step, mode-step, frame-step, takes-frames, takes-none}
+use Rattle.standin_engine.proofs.Stays.{answered-stands}
 use borrow.Author.Needs.{needs}
 use Rattle.standin_engine.proofs.byte_change.Statement.{statement}
 use Rattle.standin_engine.proofs.byte_change.Tie as tie
@@ -26,7 +27,7 @@ known c = omega arith
 returns : tie.Need-returns
 returns c =
     let l = c .before .before .before in
-    refused-byte _ _ _ _ _ (sym (l .lent-verdict .ensures) ∙ c .before .refusal .given .1)
+    (refused-byte _ _ _ _ _ (sym (l .lent-verdict .ensures) ∙ c .before .refusal .given .1), λ refused. refl)
 
 -- past the refusals the byte is taken
 accepted : (c : tie.After-enum-told) → let a = c .before .before .before .before .before .before .before .before .args in
@@ -42,10 +43,12 @@ returns-2 : tie.Need-returns-2
 returns-2 c =
     let e = c .before .before .before .before in
     let a = e .before .before .before .before .before .before .before .before .args in
-    let v = view (a .c) (now (a .held)) (memory (now (a .code)) (now (a .«data»))) in
-    unanswered v (now (a .reply))
-    ∙ ap (λ (o : Out). answered o (now (a .reply))) (silent-step (a .chip) v (a .byte) (sym (c .before .phase-number .ensures) ∙ c .if2 .taken))
-    ∙ opened e
+    let v = view (a .c) (now (a .held)) (memory (now (a .code)) (now (a .«data»))) in (
+      unanswered v (now (a .reply))
+          ∙ ap (λ (o : Out). answered o (now (a .reply))) (silent-step (a .chip) v (a .byte) (sym (c .before .phase-number .ensures) ∙ c .if2 .taken))
+          ∙ opened e,
+      λ refused. absurd (refused refl),
+    )
 
 returns-3 : tie.Need-returns-3
 unfolding received
@@ -57,11 +60,13 @@ returns-3 c =
     let a = e .before .before .before .before .before .before .before .before .args in
     let lent = memory (now (a .code)) (now (a .«data»)) in
     let v = view (a .c) (now (a .held)) lent in
-    let none = takes-none (a .c .phase) (sym (t .before .listens .ensures) ∙ not-true _ (t .if1 .taken)) (λ x. n .if2 .left (n .before .phase-number .ensures ∙ x)) in
-    ap (λ (k : Core). callOutcome (view k (now (a .held)) lent) (Answer 0) (now (a .reply))) (c .at-rest .ensures ∙ ap (λ (p : Phase). resting p Idle (a .c .options)) (m .after-mode .ensures))
-    ∙ unanswered (rest (afterMode (a .byte)) Idle (a .c .options) lent) (now (a .reply))
-    ∙ ap (λ (o : Out). answered o (now (a .reply))) (mode-step (a .chip) v (a .byte) none)
-    ∙ opened e
+    let none = takes-none (a .c .phase) (sym (t .before .listens .ensures) ∙ not-true _ (t .if1 .taken)) (λ x. n .if2 .left (n .before .phase-number .ensures ∙ x)) in (
+      ap (λ (k : Core). callOutcome (view k (now (a .held)) lent) (Answer 0) (now (a .reply))) (c .at-rest .ensures ∙ ap (λ (p : Phase). resting p Idle (a .c .options)) (m .after-mode .ensures))
+          ∙ unanswered (rest (afterMode (a .byte)) Idle (a .c .options) lent) (now (a .reply))
+          ∙ ap (λ (o : Out). answered o (now (a .reply))) (mode-step (a .chip) v (a .byte) none)
+          ∙ opened e,
+      λ refused. absurd (refused refl),
+    )
 
 receive-requires : tie.Need-receive-requires
 receive-requires c κs =
@@ -75,10 +80,12 @@ returns-4 c =
     let e = i .before .before in
     let a = e .before .before .before .before .before .before .before .before .args in
     let v = view (a .c) (now (a .held)) (memory (now (a .code)) (now (a .«data»))) in
-    let frames = takes-frames (a .c .phase) (sym (i .before .listens .ensures) ∙ not-false _ (i .if1 .left)) in
-    r .receive .ensures
-    ∙ ap (λ (o : Out). answered o (now (a .reply))) (frame-step (a .chip) v (a .byte) (frames .0) (frames .1))
-    ∙ opened e
+    let frames = takes-frames (a .c .phase) (sym (i .before .listens .ensures) ∙ not-false _ (i .if1 .left)) in (
+      r .receive .ensures
+          ∙ ap (λ (o : Out). answered o (now (a .reply))) (frame-step (a .chip) v (a .byte) (frames .0) (frames .1))
+          ∙ opened e,
+      answered-stands _ _ _ _ (ap (λ (o : Outcome). o .call) (r .receive .ensures)),
+    )
 
 pub byte-change-spec : {M : Type 1} → statement M
 byte-change-spec =

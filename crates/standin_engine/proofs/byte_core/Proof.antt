@@ -1,6 +1,7 @@
 -- `standin_engine::byte_core` meets its contract: what the byte changed, as the whole record and the call's answer. Assumes nothing.
-use mathlib.Core.Path.{_≡_, sym, ap, _∙_}
+use mathlib.Core.Path.{_≡_, refl, sym, ap, _∙_}
 use denote.Ref.{now}
+use Rattle.rules.specs.Numbers.{callNumber}
 use Rattle.rules.specs.StandIn.{byteCall}
 use Rattle.chip_finder.specs.LentFlashes.{memory}
 use Rattle.standin_engine.specs.View.{view, callOutcome}
@@ -19,16 +20,21 @@ told-so c x e =
     let h = c .before .before .before .before .before .before .byte-change in
     let a = c .before .before .before .before .before .before .before .before .before .before .before .before .before .before .args in
     ap (λ (y : Change). callOutcome (view (changed (a .c) y) (h .last .1 .1 .1 .0) (memory (h .last .1 .1 .1 .1 .0) (h .last .1 .1 .1 .1 .1 .0))) (callOf y) (h .last .1 .1 .1 .1 .1 .1 .0)) (sym e)
-    ∙ h .ensures
+    ∙ h .ensures .0
 
 returns : tie.Need-returns
-returns c = told-so (c .before .before .before) _ (c .before .changed .given .1)
+returns c =
+    let e = c .before .changed .given .1 in
+    let h = c .before .before .before .before .before .before .before .before .before .byte-change in
+    (told-so (c .before .before .before) _ e, (λ refused. refl, λ refused. h .ensures .1 (λ z. refused (ap (λ (x : Change). callNumber (callOf x) .letter) (sym e) ∙ z))))
 
 returns-2 : tie.Need-returns-2
-returns-2 c = told-so (c .before .before .before) _ (c .before .changed2 .given .1)
+returns-2 c =
+    (told-so (c .before .before .before) _ (c .before .changed2 .given .1), (λ refused. absurd (refused refl), λ refused. absurd (refused refl)))
 
 returns-3 : tie.Need-returns-3
-returns-3 c = told-so (c .before .before .before .before) _ (c .before .before .changed3 .given .1)
+returns-3 c =
+    (told-so (c .before .before .before .before) _ (c .before .before .changed3 .given .1), (λ refused. absurd (refused refl), λ refused. absurd (refused refl)))
 
 pub byte-core-spec : {M : Type 1} → statement M
 byte-core-spec =

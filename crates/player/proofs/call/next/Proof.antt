@@ -3,7 +3,7 @@ use mathlib.Core.Path.{_≡_, sym, _∙_}
 use lib.ListN.{length}
 use Rattle.rules.specs.declared.Verdict.the-variants.{Accepted}
 use Rattle.rules.specs.Sheet.{verdict}
-use Rattle.player.proofs.Refusals.{refused-J, refused-P1, refused-P2, call-parts}
+use Rattle.player.proofs.Refusals.{refused-J, refused-P1, refused-P2, call-parts, numbered}
 use borrow.Author.Needs.{needs}
 use Rattle.player.proofs.call.next.Statement.{statement}
 use Rattle.player.proofs.call.next.Tie as tie
@@ -12,17 +12,17 @@ returns : tie.Need-returns
 returns c =
     let x = c .before .before .before .before in
     let a = x .before .before .before .before .before .args in
-    rw (c .stands .ensures) (sym (refused-J (a .chip) (a .sheet .now) (a .p) (a .reply .now) (a .frame .now) (a .sums .now) _ (sym (x .verdict .ensures) ∙ c .before .before .refusal .given .1)))
+    numbered _ _ (rw (c .stands .ensures) (sym (refused-J (a .chip) (a .sheet .now) (a .p) (a .reply .now) (a .frame .now) (a .sums .now) _ (sym (x .verdict .ensures .0) ∙ c .before .before .refusal .given .1))))
 
 -- the sheet was accepted
 judged : (c : tie.After-enum-told) → let a = c .before .before .before .before .before .before .before .args in verdict (a .chip) (a .sheet .now) (length (a .sums .now)) ≡ Accepted
-judged c = sym (c .before .before .verdict .ensures) ∙ c .enum-told .given .1
+judged c = sym (c .before .before .verdict .ensures .0) ∙ c .enum-told .given .1
 
 returns-2 : tie.Need-returns-2
 returns-2 c =
     let x = c .before .before in
     let a = x .before .before .before .before .before .before .before .args in
-    rw (c .stands2 .ensures) (sym (refused-P1 (a .chip) (a .sheet .now) (a .p) (a .reply .now) (a .frame .now) (a .sums .now) (judged x) (c .before .if1 .taken)))
+    numbered _ _ (rw (c .stands2 .ensures) (sym (refused-P1 (a .chip) (a .sheet .now) (a .p) (a .reply .now) (a .frame .now) (a .sums .now) (judged x) (c .before .if1 .taken))))
 
 returns-3 : tie.Need-returns-3
 returns-3 c =
@@ -30,7 +30,7 @@ returns-3 c =
     let e = k .before .before in
     let x = e .before in
     let a = x .before .before .before .before .before .before .before .args in
-    rw (c .stands3 .ensures) (sym (refused-P2 (a .chip) (a .sheet .now) (a .p) (a .reply .now) (a .frame .now) (a .sums .now) (judged x) (e .if1 .left) (sym (k .absorb-or-lost .ensures .0) ∙ c .before .if2 .taken) _ _ (k .absorb-or-lost .ensures .1)))
+    numbered _ _ (rw (c .stands3 .ensures) (sym (refused-P2 (a .chip) (a .sheet .now) (a .p) (a .reply .now) (a .frame .now) (a .sums .now) (judged x) (e .if1 .left) (sym (k .absorb-or-lost .ensures .0) ∙ c .before .if2 .taken) _ _ (k .absorb-or-lost .ensures .1))))
 
 returns-4 : tie.Need-returns-4
 returns-4 c =
@@ -41,8 +41,9 @@ returns-4 c =
     let e = k .before .before in
     let x = e .before in
     let a = x .before .before .before .before .before .before .before .args in
-    call-parts (a .chip) (a .sheet .now) (a .p) (a .reply .now) (a .frame .now) (a .sums .now) (judged x) (e .if1 .left) (sym (k .absorb-or-lost .ensures .0) ∙ i .if2 .left)
-    _ _ (k .absorb-or-lost .ensures .1) _ _ _ (g .emit .ensures) _ (n .next-of .ensures) _ (c .report .ensures)
+    numbered _ _
+    (call-parts (a .chip) (a .sheet .now) (a .p) (a .reply .now) (a .frame .now) (a .sums .now) (judged x) (e .if1 .left) (sym (k .absorb-or-lost .ensures .0) ∙ i .if2 .left)
+    _ _ (k .absorb-or-lost .ensures .1) _ _ _ (g .emit .ensures) _ (n .next-of .ensures) _ (c .report .ensures .0))
 
 pub next-spec : {M : Type 1} → statement M
 next-spec =

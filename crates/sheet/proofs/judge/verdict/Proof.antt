@@ -1,18 +1,24 @@
 -- `sheet::judge::verdict` meets its contract: the sheet's own rules, and the room for its sums after them. Assumes nothing.
-use mathlib.Core.Path.{_≡_, sym, _∙_}
+use mathlib.Core.Path.{_≡_, sym, ap, _∙_}
 use native.Mathlib.Omega.{arith}
+use Rattle.rules.specs.declared.Verdict.{Verdict}
 use Rattle.rules.specs.declared.Verdict.the-variants.{Accepted}
+use Rattle.rules.specs.Numbers.{verdictNumber}
 use Rattle.rules.specs.Sheet.{sheetVerdict}
 use Rattle.sheet.proofs.Verdicts.{sheet-refused, no-room, room-allowed}
 use borrow.Author.Needs.{needs}
 use Rattle.sheet.proofs.judge.verdict.Statement.{statement}
 use Rattle.sheet.proofs.judge.verdict.Tie as tie
 
+-- verdicts that are the same have the same number
+numbered : (x y : Verdict) → x ≡ y → (x ≡ y) × (verdictNumber x ≡ verdictNumber y)
+numbered x y e = (e, ap verdictNumber e)
+
 returns : tie.Need-returns
 returns c =
     let v = c .before .before .before in
     let a = v .before .before .args in
-    sym (sheet-refused (a .chip) (a .sheet .now) (a .room) _ (sym (v .sheet-verdict .ensures) ∙ c .before .refusal .given .1))
+    numbered _ _ (sym (sheet-refused (a .chip) (a .sheet .now) (a .room) _ (sym (v .sheet-verdict .ensures) ∙ c .before .refusal .given .1)))
 
 -- the sheet was accepted
 kept : (c : tie.After-enum-told) → let a = c .before .before .before .before .args in sheetVerdict (a .chip) (a .sheet .now) ≡ Accepted
@@ -22,13 +28,13 @@ returns-2 : tie.Need-returns-2
 returns-2 c =
     let x = c .before .before in
     let a = x .before .before .before .before .args in
-    sym (no-room (a .chip) (a .sheet .now) (a .room) (kept x) (omega arith))
+    numbered _ _ (sym (no-room (a .chip) (a .sheet .now) (a .room) (kept x) (omega arith)))
 
 returns-3 : tie.Need-returns-3
 returns-3 c =
     let x = c .before .before in
     let a = x .before .before .before .before .args in
-    sym (room-allowed (a .chip) (a .sheet .now) (a .room) (kept x) (omega arith))
+    numbered _ _ (sym (room-allowed (a .chip) (a .sheet .now) (a .room) (kept x) (omega arith)))
 
 pub verdict-spec : {M : Type 1} → statement M
 verdict-spec =

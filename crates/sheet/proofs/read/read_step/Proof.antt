@@ -3,17 +3,23 @@ use mathlib.Core.Path.{_≡_, sym, ap, _∙_}
 use native.Mathlib.Omega.{arith}
 use Rattle.rules.specs.declared.Verdict.the-variants.{Accepted}
 use Rattle.rules.specs.Sheet.{sheetVerdict}
+use Rattle.sheet.specs.declared.Reading.{Reading}
 use Rattle.sheet.specs.declared.Reading.the-variants.{Is}
+use Rattle.sheet.specs.Reading.{readingNumber}
 use Rattle.sheet.proofs.Verdicts.{no-sheet, no-step, step-there}
 use borrow.Author.Needs.{needs}
 use Rattle.sheet.proofs.read.read_step.Statement.{statement}
 use Rattle.sheet.proofs.read.read_step.Tie as tie
 
+-- readings that are the same have the same number
+numbered : (x y : Reading) → x ≡ y → (x ≡ y) × (readingNumber x ≡ readingNumber y)
+numbered x y e = (e, ap readingNumber e)
+
 returns : tie.Need-returns
 returns c =
     let v = c .before .before in
     let a = v .before .before .args in
-    sym (no-sheet (a .chip) (a .sheet .now) (a .i) _ (sym (v .sheet-verdict .ensures) ∙ c .enum-told .given .1))
+    numbered _ _ (sym (no-sheet (a .chip) (a .sheet .now) (a .i) _ (sym (v .sheet-verdict .ensures) ∙ c .enum-told .given .1)))
 
 -- the sheet was accepted
 kept : (c : tie.After-enum-told2) → let a = c .before .before .before .before .args in sheetVerdict (a .chip) (a .sheet .now) ≡ Accepted
@@ -23,13 +29,13 @@ returns-2 : tie.Need-returns-2
 returns-2 c =
     let x = c .before .before in
     let a = x .before .before .before .before .args in
-    sym (no-step (a .chip) (a .sheet .now) (a .i) (kept x) (omega arith))
+    numbered _ _ (sym (no-step (a .chip) (a .sheet .now) (a .i) (kept x) (omega arith)))
 
 returns-3 : tie.Need-returns-3
 returns-3 c =
     let x = c .before .before .before in
     let a = x .before .before .before .before .args in
-    ap Is (c .step-at .ensures) ∙ sym (step-there (a .chip) (a .sheet .now) (a .i) (kept x) (omega arith))
+    numbered _ _ (ap Is (c .step-at .ensures) ∙ sym (step-there (a .chip) (a .sheet .now) (a .i) (kept x) (omega arith)))
 
 pub read-step-spec : {M : Type 1} → statement M
 read-step-spec =

@@ -1,10 +1,10 @@
 -- `text_told::play::put_lines` meets its contract: the lines that are left, added to what there is, are all. Assumes nothing.
 use mathlib.Core.Path.{_≡_, refl}
-use Prim.Native.Nat.{_-_, _<_, _≤_}
+use Prim.Native.Nat.{_+_, _-_, _<_, _≤_}
 use native.Mathlib.Omega.{arith}
 use lib.ListN.{length}
 use Rattle.rules.specs.Sheet.{count}
-use Rattle.rules.specs.Text.{linesFrom}
+use Rattle.rules.specs.Text.{lineAt, linesFrom}
 use Rattle.text_out.specs.Out.{out, add}
 use Rattle.text_out.proofs.Appended.{add-append, add-none}
 use Rattle.text_told.proofs.StepLines.{one-more, none-left}
@@ -42,11 +42,13 @@ loop-again c =
     let l = c .before .before .before .before .before .loop in
     let n = c .before .before .before .before .before .before .count .result in
     let a = c .before .before .before .before .before .before .before .before .before .before .before .args in
+    let line = lineAt (a .chip) (a .sheet .now) (a .report) (a .sums .now) (a .frames .now) (l .i) in
+    let later = linesFrom (a .chip) (a .sheet .now) (a .report) (a .sums .now) (a .frames .now) (l .i + 1) (n - (l .i + 1)) in
     let h : l .i < n = omega arith in (
       omega arith,
       omega arith,
       omega arith,
-      rw (c .before .before .put-line .ensures, ← add-append) (rw (one-more (a .chip) (a .sheet .now) (a .report) (a .sums .now) (a .frames .now) (l .i) n h) at (l .inv .3)),
+      rw (c .before .before .put-line .ensures, ← add-append line later (out (l .next) (l .buf))) (rw (one-more (a .chip) (a .sheet .now) (a .report) (a .sums .now) (a .frames .now) (l .i) n h) at (l .inv .3)),
     )
 
 same-length : tie.Need-same-length Inv-loop μ-loop

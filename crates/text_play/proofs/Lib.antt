@@ -1,0 +1,2 @@
+pub mod FreshChip
+pub mod Outcome

@@ -1,7 +1,6 @@
-// A whole command frame: the order that it was judged to give is done, or its fault answered.
+// A whole command frame: its own faults are answered (rows 1 to 4 of the status table); else its command is refused or done.
 use rules::Chip;
 use rules::Fault;
-use rules::Judged;
 use rules::Options;
 use rules::Phase;
 use rules::Task;
@@ -86,8 +85,12 @@ pub fn on_command(
 {
     let phase = c.phase;
     let o = c.options;
-    match standin_verdict::judge(chip, phase, o, frame, &*code, &*data) {
-        Judged::Faulty(v) => refuse(phase, o, v, reply),
-        Judged::Ordered(order) => orders::obey(chip, c, order, code, data, reply),
+    let v = frame_judge::judge_command(frame, phase);
+    if frame_judge::status_byte(v) != 0x06 {
+        return refuse(phase, o, v, reply);
     }
+    let buffer: &[u8] = frame;
+    // the frame alone: past its end every field reads as 0, in code as in the definition
+    let f = &buffer[0..frame_judge::frame_size(buffer[1])];
+    orders::obey(chip, c, f, code, data, reply)
 }

@@ -1,33 +1,47 @@
-// What an order does: one match over the orders, and a small function for each kind of answer.
-use chip_options::change::release;
+// A command whose frame is well: one match over the codes of 01's table reads the information and refuses or does the order. Below it a small
+// function for each kind of answer, and for each command that its information, flash or options can refuse.
+use crate::refuse;
 use chip_options::change::security_set;
-use chip_options::change::window_set;
+use octets::numbers::address_at;
+use octets::numbers::byte_at;
 use octets::numbers::low_byte;
 use octets::numbers::middle_byte;
+use octets::numbers::word_at;
+use rules::Address;
 use rules::Block;
 use rules::Chip;
+use rules::Fault;
 use rules::Flash;
+use rules::Found;
 use rules::Options;
-use rules::Order;
 use rules::Phase;
+use rules::Range;
 use rules::Task;
 use standin_state::Core;
 use standin_state::Response;
 use standin_state::resting::at_rest;
 use standin_state::tasks;
 ghost use mathlib.Core.Path.{_≡_};
-ghost use mathlib.Core.List.{[], _∷_, _++_};
-ghost use Prim.Native.Nat.{_≤_};
+ghost use mathlib.Core.Bool.{cond, _&&_};
+ghost use mathlib.Core.List.{List, [], _∷_, _++_};
+ghost use Prim.Native.Nat.{ℕ, _<_, _≤_};
+ghost use lib.Dec.{leb};
 ghost use lib.ListN.{length};
+ghost use Rattle.rules.specs.declared.Chip.{Chip};
+ghost use Rattle.rules.specs.declared.Options.{Options};
 ghost use Rattle.rules.specs.declared.Task.the-variants.{Idle};
-ghost use Rattle.rules.specs.Chip.{Memory, wordBytes, checksum};
+ghost use Rattle.rules.specs.declared.Order.the-variants.{Verify, Erase, Program, BaudRate, Identity, Release, WindowSet, Checksum};
+ghost use Rattle.rules.specs.declared.Decoded.the-variants.{Is, Bad};
+ghost use Rattle.rules.specs.Chip.{Memory, wordBytes, blocks, eraseAddress, range};
 ghost use Rattle.rules.specs.Frame.{dataStart, lastEnd, frame};
 ghost use Rattle.rules.specs.Options.{shownSF1, shownSF2, shownSWS, shownSWE};
 ghost use Rattle.rules.specs.State.{out, rest};
-ghost use Rattle.rules.specs.Command.{ack, ackData, afterSpeed, secured, done};
-ghost use Rattle.chip_finder.specs.LentFlashes.{memory, rangeShown};
-ghost use Rattle.standin_state.specs.View.{idle, Comes, Fits};
-ghost use Rattle.standin_verdict.specs.Inside.{Inside};
+ghost use Rattle.rules.specs.Command.{overBlocks, atBlock, decoded, ack, ackData, afterSpeed, secured};
+ghost use Rattle.chip_finder.specs.LentFlashes.{memory};
+ghost use Rattle.standin_state.specs.View.{Comes, Fits};
+ghost use Rattle.standin_command.specs.Ordered.{onOrder};
+
+// ---- the answers ----
 
 // The ACK.
 fn acknowledge(phase: Phase, task: Task, o: Options, reply: &mut [u8]) -> Response
@@ -110,66 +124,215 @@ fn secure(phase: Phase, o: Options, reply: &mut [u8]) -> Response
     acknowledge(phase, Task::Idle, o, reply)
 }
 
-// The checksum of the blocks from a first to a last.
-fn sum_over<'a>(
-    chip: Chip,
-    code: &'a [u8],
-    data: &'a [u8],
-    f: Flash,
-    first: Block,
-    last: Block,
-) -> u16
-    ensures { λ r. ⌜ r ≡ checksum (rangeShown chip (memory (now (code .entry)) (now («data» .entry))) f first last) ⌝ }
+// ---- the commands that can be refused ----
+
+// Verify: the pages of a valid address pair are awaited.
+fn verify(chip: Chip, c: Core, sad: Address, ead: Address, reply: &mut [u8]) -> Response
+    requires { ⌜ 16 ≤ length (now reply) ⌝ }
+    ensures { λ r. ⌜ ((m : Memory) (f : List ℕ) → Comes r m (now (reply .exit)) (onOrder chip c m f (overBlocks Verify (range chip sad ead))) (now (reply .entry))) ⌝ }
 {
-    octets::checksum(chip_finder::range_part(chip, code, data, f, first, last))
+    let phase = c.phase;
+    let o = c.options;
+    match chip_finder::range(chip, sad, ead) {
+        Range::Blocks(g, a, b) => {
+            acknowledge(
+                phase,
+                Task::Verifying(tasks::pages_awaited(g, a, b)),
+                o,
+                reply,
+            )
+        }
+        Range::Invalid => refuse(phase, o, Fault::Parameter, reply),
+    }
 }
 
-// The order done.
-pub(crate) fn obey(
+// Programming: the same.
+fn program(chip: Chip, c: Core, sad: Address, ead: Address, reply: &mut [u8]) -> Response
+    requires { ⌜ 16 ≤ length (now reply) ⌝ }
+    ensures { λ r. ⌜ ((m : Memory) (f : List ℕ) → Comes r m (now (reply .exit)) (onOrder chip c m f (overBlocks Program (range chip sad ead))) (now (reply .entry))) ⌝ }
+{
+    let phase = c.phase;
+    let o = c.options;
+    match chip_finder::range(chip, sad, ead) {
+        Range::Blocks(g, a, b) => {
+            acknowledge(
+                phase,
+                Task::Programming(tasks::pages_awaited(g, a, b)),
+                o,
+                reply,
+            )
+        }
+        Range::Invalid => refuse(phase, o, Fault::Parameter, reply),
+    }
+}
+
+// Checksum of the blocks of a valid address pair.
+fn tell_sum<'a>(
     chip: Chip,
     c: Core,
-    order: Order,
+    sad: Address,
+    ead: Address,
+    code: &'a [u8],
+    data: &'a [u8],
+    reply: &mut [u8],
+) -> Response
+    requires { ⌜ Fits chip (now code) (now «data») (now reply) ⌝ }
+    ensures { λ r. ⌜ ((f : List ℕ) → Comes r (memory (now (code .entry)) (now («data» .entry))) (now (reply .exit)) (onOrder chip c (memory (now (code .entry)) (now («data» .entry))) f (overBlocks Checksum (range chip sad ead))) (now (reply .entry))) ⌝ }
+{
+    let phase = c.phase;
+    let o = c.options;
+    match chip_finder::range(chip, sad, ead) {
+        Range::Blocks(g, a, b) => {
+            let sum = octets::checksum(chip_finder::range_part(chip, code, data, g, a, b));
+            tell_word(phase, o, sum, reply)
+        }
+        Range::Invalid => refuse(phase, o, Fault::Parameter, reply),
+    }
+}
+
+// A block erased, where it is not protected.
+fn erase_block(
+    chip: Chip,
+    c: Core,
+    g: Flash,
+    b: Block,
+    code: &mut [u8],
+    data: &mut [u8],
+    reply: &mut [u8],
+) -> Response
+    requires { ⌜ (Fits chip (now code) (now «data») (now reply)) × (b .0 < blocks chip g) ⌝ }
+    ensures { λ r. ⌜ ((f : List ℕ) → Comes r (memory (now (code .exit)) (now («data» .exit))) (now (reply .exit)) (onOrder chip c (memory (now (code .entry)) (now («data» .entry))) f (Is (Erase g b))) (now (reply .entry))) ⌝ }
+{
+    let phase = c.phase;
+    let o = c.options;
+    let v = standin_verdict::erase_fault(o, g, b);
+    if frame_judge::status_byte(v) != 0x06 {
+        return refuse(phase, o, v, reply);
+    }
+    chip_flash::erase::erase_block(chip, code, data, g, b);
+    acknowledge(phase, Task::Idle, o, reply)
+}
+
+// Block Erase of the block that begins at an address.
+fn erase(
+    chip: Chip,
+    c: Core,
+    sad: Address,
     code: &mut [u8],
     data: &mut [u8],
     reply: &mut [u8],
 ) -> Response
     requires { ⌜ Fits chip (now code) (now «data») (now reply) ⌝ }
-    requires { ⌜ Inside chip order ⌝ }
-    ensures { λ r. ⌜ Comes r (memory (now (code .exit)) (now («data» .exit))) (now (reply .exit)) (done chip (idle c (memory (now (code .entry)) (now («data» .entry)))) order) (now (reply .entry)) ⌝ }
+    ensures { λ r. ⌜ ((f : List ℕ) → Comes r (memory (now (code .exit)) (now («data» .exit))) (now (reply .exit)) (onOrder chip c (memory (now (code .entry)) (now («data» .entry))) f (atBlock (eraseAddress chip sad))) (now (reply .entry))) ⌝ }
+{
+    match chip_finder::erase_address(chip, sad) {
+        Found::In(g, b) => erase_block(chip, c, g, b, code, data, reply),
+        Found::Nowhere => {
+            let phase = c.phase;
+            let o = c.options;
+            refuse(phase, o, Fault::Parameter, reply)
+        }
+    }
+}
+
+// Baud Rate Set.
+fn set_speed(c: Core, brt: u8, vdd: u8, reply: &mut [u8]) -> Response
+    requires { ⌜ 16 ≤ length (now reply) ⌝ }
+    ensures { λ r. ⌜ ((chip : Chip) (m : Memory) (f : List ℕ) → Comes r m (now (reply .exit)) (onOrder chip c m f (cond (leb brt 3 && leb 0x10 vdd && leb vdd 0x37) (Is BaudRate) Bad)) (now (reply .entry))) ⌝ }
 {
     let phase = c.phase;
     let o = c.options;
-    match order {
-        Order::Reset => acknowledge(phase, Task::Idle, o, reply),
-        Order::Verify(f, a, b) => {
-            acknowledge(
-                phase,
-                Task::Verifying(tasks::pages_awaited(f, a, b)),
-                o,
-                reply,
-            )
-        }
-        Order::Erase(f, b) => {
-            chip_flash::erase::erase_block(chip, code, data, f, b);
-            acknowledge(phase, Task::Idle, o, reply)
-        }
-        Order::Program(f, a, b) => {
-            acknowledge(
-                phase,
-                Task::Programming(tasks::pages_awaited(f, a, b)),
-                o,
-                reply,
-            )
-        }
-        Order::BaudRate => tell_speed(o, reply),
-        Order::Identity => acknowledge(Phase::Command, Task::Idle, o, reply),
-        Order::SecuritySet(a, b) => secure(phase, security_set(o, a, b), reply),
-        Order::SecurityGet => tell_flags(phase, o, reply),
-        Order::Release => acknowledge(phase, Task::Idle, release(o), reply),
-        Order::WindowSet(a, b) => acknowledge(phase, Task::Idle, window_set(o, a, b), reply),
-        Order::WindowGet => tell_window(chip, phase, o, reply),
-        Order::Checksum(f, a, b) => {
-            tell_word(phase, o, sum_over(chip, &*code, &*data, f, a, b), reply)
-        }
+    if standin_verdict::rated(brt, vdd) {
+        return tell_speed(o, reply);
+    }
+    refuse(phase, o, Fault::Parameter, reply)
+}
+
+// ID: the ten bytes that stand in the frame.
+fn identify(c: Core, f: &[u8], code: &[u8], reply: &mut [u8]) -> Response
+    requires { ⌜ 16 ≤ length (now reply) ⌝ }
+    ensures { λ r. ⌜ ((chip : Chip) (d : List ℕ) → Comes r (memory (now (code .entry)) d) (now (reply .exit)) (onOrder chip c (memory (now (code .entry)) d) (now (f .entry)) (Is Identity)) (now (reply .entry))) ⌝ }
+{
+    let phase = c.phase;
+    let o = c.options;
+    let v = standin_verdict::ident_fault(f, code);
+    if frame_judge::status_byte(v) != 0x06 {
+        return refuse(phase, o, v, reply);
+    }
+    acknowledge(Phase::Command, Task::Idle, o, reply)
+}
+
+// Security Release.
+fn release(c: Core, code: &[u8], data: &[u8], reply: &mut [u8]) -> Response
+    requires { ⌜ 16 ≤ length (now reply) ⌝ }
+    ensures { λ r. ⌜ ((chip : Chip) (f : List ℕ) → Comes r (memory (now (code .entry)) (now («data» .entry))) (now (reply .exit)) (onOrder chip c (memory (now (code .entry)) (now («data» .entry))) f (Is Release)) (now (reply .entry))) ⌝ }
+{
+    let phase = c.phase;
+    let o = c.options;
+    let v = standin_verdict::release_fault(o, code, data);
+    if frame_judge::status_byte(v) != 0x06 {
+        return refuse(phase, o, v, reply);
+    }
+    acknowledge(phase, Task::Idle, chip_options::change::release(o), reply)
+}
+
+// Window Set.
+fn set_window(c: Core, sws: u16, swe: u16, reply: &mut [u8]) -> Response
+    requires { ⌜ 16 ≤ length (now reply) ⌝ }
+    ensures { λ r. ⌜ ((chip : Chip) (m : Memory) (f : List ℕ) → Comes r m (now (reply .exit)) (onOrder chip c m f (Is (WindowSet sws swe))) (now (reply .entry))) ⌝ }
+{
+    let phase = c.phase;
+    let o = c.options;
+    let v = standin_verdict::window_fault(o);
+    if frame_judge::status_byte(v) != 0x06 {
+        return refuse(phase, o, v, reply);
+    }
+    acknowledge(
+        phase,
+        Task::Idle,
+        chip_options::change::window_set(o, sws, swe),
+        reply,
+    )
+}
+
+// ---- all commands ----
+
+// The command whose code came, refused or done.
+pub(crate) fn obey(
+    chip: Chip,
+    c: Core,
+    f: &[u8],
+    code: &mut [u8],
+    data: &mut [u8],
+    reply: &mut [u8],
+) -> Response
+    requires { ⌜ Fits chip (now code) (now «data») (now reply) ⌝ }
+    ensures { λ r. ⌜ Comes r (memory (now (code .exit)) (now («data» .exit))) (now (reply .exit)) (onOrder chip c (memory (now (code .entry)) (now («data» .entry))) (now (f .entry)) (decoded chip (now (f .entry)))) (now (reply .entry)) ⌝ }
+{
+    let phase = c.phase;
+    let o = c.options;
+    let command = byte_at(f, 2);
+    match command {
+        0x00 => acknowledge(phase, Task::Idle, o, reply),
+        0x13 => verify(chip, c, address_at(f, 3), address_at(f, 6), reply),
+        0x22 => erase(chip, c, address_at(f, 3), code, data, reply),
+        0x40 => program(chip, c, address_at(f, 3), address_at(f, 6), reply),
+        0x9A => set_speed(c, byte_at(f, 3), byte_at(f, 4), reply),
+        0x9C => identify(c, f, &*code, reply),
+        0xA0 => secure(phase, security_set(o, byte_at(f, 3), byte_at(f, 4)), reply),
+        0xA1 => tell_flags(phase, o, reply),
+        0xA2 => release(c, &*code, &*data, reply),
+        0xAC => set_window(c, word_at(f, 3), word_at(f, 5), reply),
+        0xAD => tell_window(chip, phase, o, reply),
+        0xB0 => tell_sum(
+            chip,
+            c,
+            address_at(f, 3),
+            address_at(f, 6),
+            &*code,
+            &*data,
+            reply,
+        ),
+        _ => refuse(phase, o, Fault::Parameter, reply),
     }
 }

@@ -1,5 +1,5 @@
 -- The information of a command frame: the reading of its code, and blocks that are there. Assumes nothing.
-use mathlib.Core.Path.{_≡_, refl, sym, ap, subst, _∙_}
+use mathlib.Core.Path.{_≡_, refl, sym, ap, _∙_}
 use mathlib.Core.Bool.{Bool, true, false, cond, _&&_}
 use mathlib.Core.List.{List, [], _∷_}
 use Prim.Native.Nat.{ℕ, _<_}
@@ -103,7 +103,3 @@ module _ (chip : Chip) where
   unfolding judged
   judged-sound phase o m f =
       unless-sound (firstFault (frameChecks phase f)) (judgedOrder o m f (decoded chip f)) (order-sound o m f (decoded chip f) (decoded-read f))
-
-  pub judged-inside : (phase : Phase) (o : Options) (m : Memory) (f : List ℕ) (order : Order)
-      → judged chip phase o m f ≡ Ordered order → Inside chip order
-  judged-inside phase o m f order e = subst (Sound chip) e (judged-sound phase o m f)

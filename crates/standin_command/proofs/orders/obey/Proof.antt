@@ -1,136 +1,145 @@
--- `standin_command::orders::obey` meets its contract: what the order that came does. Assumes nothing.
-use mathlib.Core.Path.{sym, ap, subst, _∙_}
+-- `standin_command::orders::obey` meets its contract: the command of the code that came. Assumes nothing.
+use mathlib.Core.Path.{_≡_, refl, sym, ap, _∙_}
+use mathlib.Core.Bool.{cond, _&&_}
 use Prim.Native.Nat.{ℕ}
 use denote.Ref.{now}
+use lib.Dec.{leb}
 use Rattle.rules.specs.declared.Options.{Options}
-use Rattle.rules.specs.declared.Pages.{Pages}
-use Rattle.rules.specs.declared.Order.{Order}
-use Rattle.rules.specs.declared.Task.the-variants.{Idle, Programming, Verifying}
-use Rattle.rules.specs.Chip.{Memory, wordBytes, checksum}
-use Rattle.rules.specs.State.{out, rest}
-use Rattle.rules.specs.Command.{ack, ackTask, ackOptions, ackData, secured, done}
+use Rattle.rules.specs.declared.Order.the-variants.{Reset, Verify, Program, BaudRate, Identity, SecuritySet, SecurityGet, Release, WindowSet, WindowGet, Checksum}
+use Rattle.rules.specs.declared.Decoded.the-variants.{Is, Bad}
+use Rattle.rules.specs.First.{first}
+use Rattle.rules.specs.Chip.{eraseAddress, range}
+use Rattle.rules.specs.Command.{codeOf, commands, readAs, overBlocks, atBlock, orderChecks, unless, judgedOrder, secured, done}
+use Rattle.rules.specs.StandIn.{onJudged}
 use Rattle.chip_finder.specs.LentFlashes.{memory}
 use Rattle.standin_state.specs.View.{idle}
-use Rattle.standin_verdict.specs.Inside.{Inside}
+use Rattle.standin_verdict.proofs.Readings.{at-code, unlisted}
+use Rattle.standin_command.specs.Ordered.{onOrder}
 use Rattle.standin_command.proofs.Answers.{same-out}
-use Rattle.standin_command.proofs.Found.{erased-found, shown-found}
 use borrow.Author.Needs.{needs}
 use Rattle.standin_command.proofs.orders.obey.Statement.{statement}
 use Rattle.standin_command.proofs.orders.obey.Tie as tie
 
 returns : tie.Need-returns
-unfolding done
+unfolding onJudged judgedOrder unless orderChecks first done commands readAs
 returns c =
-    let z = c .before .before .before .before .before .before .before .before .before .before in
-    let a = z .args in
+    let a = c .before .before .before .before .before .before .before .before .before .before .before .args in
+    let f = now (a .f) in
     let m = memory (now (a .code)) (now (a .«data»)) in
-    let s = idle (a .c) m in
-    same-out _ _ _ _ _ _ (ap (λ (x : Order). done (a .chip) s x) (sym (c .before .before .before .before .enum-told .given .1))) (c .before .before .acknowledge .ensures m)
+    let d = at-code (a .chip) f _ _ (c .before .before .before .before .before .byte-at .ensures) (c .before .before .before .before .match .keys1) (Is Reset) (refl) in
+    same-out _ _ _ _ _ _ (ap (onOrder (a .chip) (a .c) m f) d) (c .before .before .acknowledge .ensures m)
 
 returns-2 : tie.Need-returns-2
-unfolding done
+unfolding commands readAs
 returns-2 c =
-    let z = c .before .before .before .before .before .before .before .before .before .before .before .before in
-    let a = z .args in
+    let a = c .before .before .before .before .before .before .before .before .before .before .before .before .before .args in
+    let f = now (a .f) in
     let m = memory (now (a .code)) (now (a .«data»)) in
-    let s = idle (a .c) m in
-    same-out _ _ _ _ _ _ (ap (λ (p : Pages). ackTask (Verifying p) s) (c .before .before .before .before .pages-awaited .ensures) ∙ ap (λ (x : Order). done (a .chip) s x) (sym (c .before .before .before .before .before .before .order .given .1))) (c .before .before .acknowledge2 .ensures m)
+    let d = at-code (a .chip) f _ _ (c .before .before .before .before .before .before .before .byte-at .ensures) (c .before .before .before .before .before .before .match .keys2) (overBlocks Verify (range (a .chip) (c .before .before .before .before .before .address-at .result) (c .before .before .before .before .address-at2 .result))) (rw (c .before .before .before .before .before .address-at .ensures, c .before .before .before .before .address-at2 .ensures)) in
+    same-out _ _ _ _ _ _ (ap (onOrder (a .chip) (a .c) m f) d) (c .before .before .verify .ensures m f)
 
 returns-3 : tie.Need-returns-3
-unfolding done
+unfolding commands readAs
 returns-3 c =
-    let z = c .before .before .before .before .before .before .before .before .before .before .before .before .before .before .before .before .before .before in
-    let a = z .args in
+    let a = c .before .before .before .before .before .before .before .before .before .before .before .before .before .before .before .before .before .before .args in
+    let f = now (a .f) in
     let m = memory (now (a .code)) (now (a .«data»)) in
-    let s = idle (a .c) m in
-    let k = c .before .before .before .before .before .before .before .before .before .before .before .before .order2 .given in
-    let i = subst (Inside (a .chip)) (k .1) (z .pre .1) in
-    same-out _ _ _ _ _ _ (ap (λ (n : Memory). out (rest (a .c .phase) Idle (a .c .options) n) ack) (c .before .before .before .before .before .before .before .before .erase-block .ensures ∙ erased-found (a .chip) m (z .pre .0 .inCode) (z .pre .0 .inData) _ _ i) ∙ ap (λ (x : Order). done (a .chip) s x) (sym (k .1))) (c .before .before .acknowledge3 .ensures _)
+    let d = at-code (a .chip) f _ _ (c .before .before .before .before .before .before .before .before .before .before .before .before .byte-at .ensures) (c .before .before .before .before .before .before .before .before .before .before .before .match .keys3) (atBlock (eraseAddress (a .chip) (c .before .before .before .before .before .before .before .before .before .before .address-at3 .result))) (rw (c .before .before .before .before .before .before .before .before .before .before .address-at3 .ensures)) in
+    same-out _ _ _ _ _ _ (ap (onOrder (a .chip) (a .c) m f) d) (c .before .before .before .before .before .before .erase .ensures f)
 
 returns-4 : tie.Need-returns-4
-unfolding done
+unfolding commands readAs
 returns-4 c =
-    let z = c .before .before .before .before .before .before .before .before .before .before .before .before in
-    let a = z .args in
+    let a = c .before .before .before .before .before .before .before .before .before .before .before .before .before .args in
+    let f = now (a .f) in
     let m = memory (now (a .code)) (now (a .«data»)) in
-    let s = idle (a .c) m in
-    same-out _ _ _ _ _ _ (ap (λ (p : Pages). ackTask (Programming p) s) (c .before .before .before .before .pages-awaited2 .ensures) ∙ ap (λ (x : Order). done (a .chip) s x) (sym (c .before .before .before .before .before .before .order3 .given .1))) (c .before .before .acknowledge4 .ensures m)
+    let d = at-code (a .chip) f _ _ (c .before .before .before .before .before .before .before .byte-at .ensures) (c .before .before .before .before .before .before .match .keys4) (overBlocks Program (range (a .chip) (c .before .before .before .before .before .address-at4 .result) (c .before .before .before .before .address-at5 .result))) (rw (c .before .before .before .before .before .address-at4 .ensures, c .before .before .before .before .address-at5 .ensures)) in
+    same-out _ _ _ _ _ _ (ap (onOrder (a .chip) (a .c) m f) d) (c .before .before .program .ensures m f)
 
 returns-5 : tie.Need-returns-5
-unfolding done
+unfolding commands readAs
 returns-5 c =
-    let z = c .before .before .before .before .before .before .before .before .before .before in
-    let a = z .args in
+    let a = c .before .before .before .before .before .before .before .before .before .before .before .before .before .args in
+    let f = now (a .f) in
     let m = memory (now (a .code)) (now (a .«data»)) in
-    let s = idle (a .c) m in
-    same-out _ _ _ _ _ _ (ap (λ (x : Order). done (a .chip) s x) (sym (c .before .before .before .before .enum-told2 .given .1))) (c .before .before .tell-speed .ensures m)
+    let d = at-code (a .chip) f _ _ (c .before .before .before .before .before .before .before .byte-at .ensures) (c .before .before .before .before .before .before .match .keys5) (cond (leb (c .before .before .before .before .before .byte-at2 .result) 3 && leb 0x10 (c .before .before .before .before .byte-at3 .result) && leb (c .before .before .before .before .byte-at3 .result) 0x37) (Is BaudRate) Bad) (rw (c .before .before .before .before .before .byte-at2 .ensures, c .before .before .before .before .byte-at3 .ensures)) in
+    same-out _ _ _ _ _ _ (ap (onOrder (a .chip) (a .c) m f) d) (c .before .before .set-speed .ensures (a .chip) m f)
 
 returns-6 : tie.Need-returns-6
-unfolding done
+unfolding commands readAs
 returns-6 c =
-    let z = c .before .before .before .before .before .before .before .before .before .before in
-    let a = z .args in
+    let a = c .before .before .before .before .before .before .before .before .before .before .before .before .args in
+    let f = now (a .f) in
     let m = memory (now (a .code)) (now (a .«data»)) in
-    let s = idle (a .c) m in
-    same-out _ _ _ _ _ _ (ap (λ (x : Order). done (a .chip) s x) (sym (c .before .before .before .before .enum-told3 .given .1))) (c .before .before .acknowledge5 .ensures m)
+    let d = at-code (a .chip) f _ _ (c .before .before .before .before .before .before .byte-at .ensures) (c .before .before .before .before .before .match .keys6) (Is Identity) (refl) in
+    same-out _ _ _ _ _ _ (ap (onOrder (a .chip) (a .c) m f) d) (c .before .before .identify .ensures (a .chip) (now (a .«data»)))
 
 returns-7 : tie.Need-returns-7
-unfolding done secured
+unfolding onJudged judgedOrder unless orderChecks first done commands readAs secured
 returns-7 c =
-    let z = c .before .before .before .before .before .before .before .before .before .before .before .before in
-    let a = z .args in
+    let a = c .before .before .before .before .before .before .before .before .before .before .before .before .before .before .args in
+    let f = now (a .f) in
     let m = memory (now (a .code)) (now (a .«data»)) in
-    let s = idle (a .c) m in
-    same-out _ _ _ _ _ _ (ap (λ (o : Options). secured o s) (c .before .before .before .before .security-set .ensures) ∙ ap (λ (x : Order). done (a .chip) s x) (sym (c .before .before .before .before .before .before .order4 .given .1))) (c .before .before .secure .ensures m (a .c .options))
+    let d = at-code (a .chip) f _ _ (c .before .before .before .before .before .before .before .before .byte-at .ensures) (c .before .before .before .before .before .before .before .match .keys7) (Is (SecuritySet (c .before .before .before .before .before .before .byte-at4 .result) (c .before .before .before .before .before .byte-at5 .result))) (rw (c .before .before .before .before .before .before .byte-at4 .ensures, c .before .before .before .before .before .byte-at5 .ensures)) in
+    same-out _ _ _ _ _ _ (ap (λ (o : Options). secured o (idle (a .c) m)) (c .before .before .before .before .security-set .ensures) ∙ ap (onOrder (a .chip) (a .c) m f) d) (c .before .before .secure .ensures m (a .c .options))
 
 returns-8 : tie.Need-returns-8
-unfolding done
+unfolding onJudged judgedOrder unless orderChecks first done commands readAs
 returns-8 c =
-    let z = c .before .before .before .before .before .before .before .before .before .before in
-    let a = z .args in
+    let a = c .before .before .before .before .before .before .before .before .before .before .before .args in
+    let f = now (a .f) in
     let m = memory (now (a .code)) (now (a .«data»)) in
-    let s = idle (a .c) m in
-    same-out _ _ _ _ _ _ (ap (λ (x : Order). done (a .chip) s x) (sym (c .before .before .before .before .enum-told4 .given .1))) (c .before .before .tell-flags .ensures m)
+    let d = at-code (a .chip) f _ _ (c .before .before .before .before .before .byte-at .ensures) (c .before .before .before .before .match .keys8) (Is SecurityGet) (refl) in
+    same-out _ _ _ _ _ _ (ap (onOrder (a .chip) (a .c) m f) d) (c .before .before .tell-flags .ensures m)
 
 returns-9 : tie.Need-returns-9
-unfolding done
+unfolding commands readAs
 returns-9 c =
-    let z = c .before .before .before .before .before .before .before .before .before .before .before in
-    let a = z .args in
+    let a = c .before .before .before .before .before .before .before .before .before .before .before .before .before .args in
+    let f = now (a .f) in
     let m = memory (now (a .code)) (now (a .«data»)) in
-    let s = idle (a .c) m in
-    same-out _ _ _ _ _ _ (ap (λ (o : Options). ackOptions o s) (c .before .before .before .before .release .ensures) ∙ ap (λ (x : Order). done (a .chip) s x) (sym (c .before .before .before .before .before .enum-told5 .given .1))) (c .before .before .acknowledge6 .ensures m)
+    let d = at-code (a .chip) f _ _ (c .before .before .before .before .before .before .before .byte-at .ensures) (c .before .before .before .before .before .before .match .keys9) (Is Release) (refl) in
+    same-out _ _ _ _ _ _ (ap (onOrder (a .chip) (a .c) m f) d) (c .before .before .release .ensures (a .chip) f)
 
 returns-10 : tie.Need-returns-10
-unfolding done
+unfolding commands readAs
 returns-10 c =
-    let z = c .before .before .before .before .before .before .before .before .before .before .before .before in
-    let a = z .args in
+    let a = c .before .before .before .before .before .before .before .before .before .before .before .before .before .args in
+    let f = now (a .f) in
     let m = memory (now (a .code)) (now (a .«data»)) in
-    let s = idle (a .c) m in
-    same-out _ _ _ _ _ _ (ap (λ (o : Options). ackOptions o s) (c .before .before .before .before .window-set .ensures) ∙ ap (λ (x : Order). done (a .chip) s x) (sym (c .before .before .before .before .before .before .order5 .given .1))) (c .before .before .acknowledge7 .ensures m)
+    let d = at-code (a .chip) f _ _ (c .before .before .before .before .before .before .before .byte-at .ensures) (c .before .before .before .before .before .before .match .keys10) (Is (WindowSet (c .before .before .before .before .before .word-at .result) (c .before .before .before .before .word-at2 .result))) (rw (c .before .before .before .before .before .word-at .ensures, c .before .before .before .before .word-at2 .ensures)) in
+    same-out _ _ _ _ _ _ (ap (onOrder (a .chip) (a .c) m f) d) (c .before .before .set-window .ensures (a .chip) m f)
 
 returns-11 : tie.Need-returns-11
-unfolding done
+unfolding onJudged judgedOrder unless orderChecks first done commands readAs
 returns-11 c =
-    let z = c .before .before .before .before .before .before .before .before .before .before in
-    let a = z .args in
+    let a = c .before .before .before .before .before .before .before .before .before .before .before .args in
+    let f = now (a .f) in
     let m = memory (now (a .code)) (now (a .«data»)) in
-    let s = idle (a .c) m in
-    same-out _ _ _ _ _ _ (ap (λ (x : Order). done (a .chip) s x) (sym (c .before .before .before .before .enum-told6 .given .1))) (c .before .before .tell-window .ensures m)
+    let d = at-code (a .chip) f _ _ (c .before .before .before .before .before .byte-at .ensures) (c .before .before .before .before .match .keys11) (Is WindowGet) (refl) in
+    same-out _ _ _ _ _ _ (ap (onOrder (a .chip) (a .c) m f) d) (c .before .before .tell-window .ensures m)
 
 returns-12 : tie.Need-returns-12
-unfolding done
+unfolding commands readAs
 returns-12 c =
-    let z = c .before .before .before .before .before .before .before .before .before .before .before .before .before .before in
-    let a = z .args in
+    let a = c .before .before .before .before .before .before .before .before .before .before .before .before .before .before .before .args in
+    let f = now (a .f) in
     let m = memory (now (a .code)) (now (a .«data»)) in
-    let s = idle (a .c) m in
-    let k = c .before .before .before .before .before .before .before .before .order6 .given in
-    let i = subst (Inside (a .chip)) (k .1) (z .pre .1) in
-    same-out _ _ _ _ _ _ (ap (λ (n : ℕ). ackData (wordBytes n) s) (c .before .before .before .before .sum-over .ensures ∙ ap checksum (shown-found (a .chip) m (z .pre .0 .inCode) (z .pre .0 .inData) _ _ _ (i .0) (i .1))) ∙ ap (λ (x : Order). done (a .chip) s x) (sym (k .1))) (c .before .before .tell-word .ensures m)
+    let d = at-code (a .chip) f _ _ (c .before .before .before .before .before .before .before .before .before .byte-at .ensures) (c .before .before .before .before .before .before .before .before .match .keys12) (overBlocks Checksum (range (a .chip) (c .before .before .before .before .before .before .before .address-at6 .result) (c .before .before .before .before .before .before .address-at7 .result))) (rw (c .before .before .before .before .before .before .before .address-at6 .ensures, c .before .before .before .before .before .before .address-at7 .ensures)) in
+    same-out _ _ _ _ _ _ (ap (onOrder (a .chip) (a .c) m f) d) (c .before .before .tell-sum .ensures f)
+
+returns-13 : tie.Need-returns-13
+unfolding onJudged judgedOrder commands
+returns-13 c =
+    let a = c .before .before .before .before .before .before .before .before .before .before .before .args in
+    let f = now (a .f) in
+    let m = memory (now (a .code)) (now (a .«data»)) in
+    let r = c .before .before .before .before .match .rest in
+    let is = c .before .before .before .before .before .byte-at in
+    let no : (k : ℕ) → (is .result ≡ k → ⊥) → k ≡ codeOf f → ⊥ = λ k n e. n (is .ensures ∙ sym e) in
+    same-out _ _ _ _ _ _ (ap (onOrder (a .chip) (a .c) m f) (unlisted commands (codeOf f) (no _ (r .0 .0 .0 .0 .0 .0 .0 .0 .0 .0 .0 .1), (no _ (r .0 .0 .0 .0 .0 .0 .0 .0 .0 .0 .1), (no _ (r .0 .0 .0 .0 .0 .0 .0 .0 .0 .1), (no _ (r .0 .0 .0 .0 .0 .0 .0 .0 .1), (no _ (r .0 .0 .0 .0 .0 .0 .0 .1), (no _ (r .0 .0 .0 .0 .0 .0 .1), (no _ (r .0 .0 .0 .0 .0 .1), (no _ (r .0 .0 .0 .0 .1), (no _ (r .0 .0 .0 .1), (no _ (r .0 .0 .1), (no _ (r .0 .1), (no _ (r .1), tt)))))))))))) (a .chip) f)) (c .before .before .refuse .ensures m)
 
 pub obey-spec : {M : Type 1} → statement M
 obey-spec =
     tie.close
-    (tie.spec (λ c. search needs) (λ c κs. search needs) (λ c. search needs) (λ c κs. search needs) (λ c κs. search needs) (λ c. search needs) (λ c κs. search needs) (λ c κs. search needs) (λ c. search needs) (λ c κs. search needs) (λ c κs. search needs) (λ c. search needs) (λ c κs. search needs) (λ c. search needs) (λ c κs. search needs) (λ c. search needs) (λ c κs. search needs) (λ c κs. search needs) (λ c. search needs) (λ c κs. search needs) (λ c. search needs) (λ c κs. search needs) (λ c κs. search needs) (λ c. search needs) (λ c κs. search needs) (λ c κs. search needs) (λ c. search needs) (λ c κs. search needs) (λ c. search needs) (λ c κs. search needs) (λ c κs. search needs) (λ c. search needs) returns (λ c. search needs) returns-2 (λ c. search needs) (λ c. search needs) (λ c. search needs) returns-3 (λ c. search needs) returns-4 (λ c. search needs) returns-5 (λ c. search needs) returns-6 (λ c. search needs) returns-7 (λ c. search needs) returns-8 (λ c. search needs) returns-9 (λ c. search needs) returns-10 (λ c. search needs) returns-11 (λ c. search needs) (λ c. search needs) (λ c. search needs) returns-12)
+    (tie.spec (λ c κs. search needs) (λ c κs. search needs) (λ c κs. search needs) (λ c κs. search needs) (λ c κs. search needs) (λ c κs. search needs) (λ c κs. search needs) (λ c κs. search needs) (λ c κs. search needs) (λ c κs. search needs) (λ c κs. search needs) (λ c κs. search needs) (λ c κs. search needs) (λ c κs. search needs) (λ c κs. search needs) (λ c κs. search needs) (λ c κs. search needs) (λ c κs. search needs) (λ c κs. search needs) (λ c κs. search needs) (λ c κs. search needs) (λ c κs. search needs) (λ c κs. search needs) (λ c κs. search needs) (λ c κs. search needs) (λ c κs. search needs) (λ c κs. search needs) (λ c κs. search needs) (λ c. search needs) returns (λ c. search needs) returns-2 (λ c. search needs) (λ c. search needs) (λ c. search needs) returns-3 (λ c. search needs) returns-4 (λ c. search needs) returns-5 (λ c. search needs) (λ c. search needs) returns-6 (λ c. search needs) returns-7 (λ c. search needs) returns-8 (λ c. search needs) (λ c. search needs) (λ c. search needs) returns-9 (λ c. search needs) returns-10 (λ c. search needs) returns-11 (λ c. search needs) (λ c. search needs) (λ c. search needs) returns-12 (λ c. search needs) returns-13)

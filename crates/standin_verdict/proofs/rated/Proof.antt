@@ -1,7 +1,7 @@
--- `standin_verdict::rate_of` meets its contract: each return has the tests that led there. Assumes nothing.
+-- `standin_verdict::rated` meets its contract: each return has the tests that led there. Assumes nothing.
 use borrow.Author.Tests.{le-leb, lt-leb}
-use Rattle.standin_verdict.proofs.rate_of.Statement.{statement}
-use Rattle.standin_verdict.proofs.rate_of.Tie as tie
+use Rattle.standin_verdict.proofs.rated.Statement.{statement}
+use Rattle.standin_verdict.proofs.rated.Tie as tie
 
 returns : tie.Need-returns
 returns c = simp (lt-leb _ _ (c .if1 .taken))
@@ -15,7 +15,7 @@ returns-3 c = simp (le-leb _ _ (c .before .before .if1 .left), le-leb _ _ (c .be
 returns-4 : tie.Need-returns-4
 returns-4 c = simp (le-leb _ _ (c .before .before .if1 .left), le-leb _ _ (c .before .if2 .left), le-leb _ _ (c .if3 .left))
 
-pub rate-of-spec : {M : Type 1} → statement M
-rate-of-spec =
+pub rated-spec : {M : Type 1} → statement M
+rated-spec =
     tie.close
     (tie.spec returns returns-2 returns-3 returns-4)

@@ -4,18 +4,21 @@ use rules::Fault;
 use rules::Options;
 use rules::Phase;
 use rules::Task;
+use rules::Verdict;
 use standin_state::Core;
 use standin_state::Response;
+use standin_state::lent::lent_verdict;
+use standin_state::resting::unanswered;
 ghost use mathlib.Core.Path.{_≡_};
 ghost use Prim.Native.Nat.{_≤_};
 ghost use lib.ListN.{length};
 ghost use Rattle.rules.specs.declared.Task.the-variants.{Idle};
 ghost use Rattle.rules.specs.Chip.{Memory};
 ghost use Rattle.rules.specs.Frame.{one, statusByte};
-ghost use Rattle.rules.specs.StandIn.{out, rest, silences, phaseAfter, onCommand};
+ghost use Rattle.rules.specs.StandIn.{out, rest, silences, phaseAfter, onCommand, lentVerdict};
 ghost use Rattle.chip_finder.specs.LentFlashes.{memory};
 ghost use Rattle.frame_build.specs.Buffer.{frameIn};
-ghost use Rattle.standin_state.specs.View.{idle, Comes, Fits};
+ghost use Rattle.standin_state.specs.View.{idle, Comes, Fits, handed};
 
 mod orders;
 
@@ -72,7 +75,8 @@ fn refuse(phase: Phase, o: Options, v: Fault, reply: &mut [u8]) -> Response
     }
 }
 
-pub fn on_command(
+// The frame judged by its own rows, then by its command.
+fn judged(
     chip: Chip,
     c: Core,
     frame: &[u8; 260],
@@ -93,4 +97,21 @@ pub fn on_command(
     // the frame alone: past its end every field reads as 0, in code as in the definition
     let f = &buffer[0..frame_judge::frame_size(buffer[1])];
     orders::obey(chip, c, f, code, data, reply)
+}
+
+// A whole command frame. Where what is lent does not fit (D1 to D3) all stands and nothing is answered.
+pub fn on_command(
+    chip: Chip,
+    c: Core,
+    frame: &[u8; 260],
+    code: &mut [u8],
+    data: &mut [u8],
+    reply: &mut [u8],
+) -> Response
+    ensures { λ r. ⌜ Comes r (memory (now (code .exit)) (now («data» .exit))) (now (reply .exit)) (handed (lentVerdict chip (length (now (code .entry))) (length (now («data» .entry))) (length (now (reply .entry)))) (idle c (memory (now (code .entry)) (now («data» .entry)))) (onCommand chip (idle c (memory (now (code .entry)) (now («data» .entry)))) (frameIn (now (frame .entry))))) (now (reply .entry)) ⌝ }
+{
+    if let Verdict::Refused(_) = lent_verdict(chip, code.len(), data.len(), reply.len()) {
+        return unanswered(c);
+    }
+    judged(chip, c, frame, code, data, reply)
 }

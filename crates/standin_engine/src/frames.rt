@@ -1,16 +1,16 @@
-// A whole frame of the kind awaited.
+// A whole frame of the kind awaited. Where what is lent does not fit (D1 to D3) all stands and nothing is answered.
 use rules::Chip;
 use rules::Task;
 use standin_state::Core;
 use standin_state::Response;
 use standin_state::tasks;
-ghost use mathlib.Core.Path.{_≡_};
-ghost use Rattle.rules.specs.StandIn.{onFrame, answered};
+ghost use lib.ListN.{length};
+ghost use Rattle.rules.specs.StandIn.{onFrame, lentVerdict};
 ghost use Rattle.chip_finder.specs.LentFlashes.{memory};
 ghost use Rattle.frame_build.specs.Buffer.{frameIn};
-ghost use Rattle.standin_state.specs.View.{idle, frameOutcome, Fits};
+ghost use Rattle.standin_state.specs.View.{idle, Comes, handed};
 
-pub(crate) fn on_frame(
+pub fn on_frame(
     chip: Chip,
     c: Core,
     frame: &[u8; 260],
@@ -18,9 +18,7 @@ pub(crate) fn on_frame(
     data: &mut [u8],
     reply: &mut [u8],
 ) -> Response
-    requires { ⌜ Fits chip (now code) (now «data») (now reply) ⌝ }
-    ensures { λ r. ⌜ frameOutcome r (memory (now (code .exit)) (now («data» .exit))) (now (reply .exit)) ≡ answered (onFrame chip (idle c (memory (now (code .entry)) (now («data» .entry)))) (frameIn (now (frame .entry)))) (now (reply .entry)) ⌝ }
-    ensures { λ r. ⌜ r .core .have ≡ 0 ⌝ }
+    ensures { λ r. ⌜ Comes r (memory (now (code .exit)) (now («data» .exit))) (now (reply .exit)) (handed (lentVerdict chip (length (now (code .entry))) (length (now («data» .entry))) (length (now (reply .entry)))) (idle c (memory (now (code .entry)) (now («data» .entry)))) (onFrame chip (idle c (memory (now (code .entry)) (now («data» .entry)))) (frameIn (now (frame .entry))))) (now (reply .entry)) ⌝ }
 {
     let phase = c.phase;
     let task = c.task;

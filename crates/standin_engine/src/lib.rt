@@ -22,7 +22,7 @@ ghost use Rattle.standin_engine.specs.View.{view, callOutcome, heldCount
 ghost use Rattle.standin_engine.specs.Change.{callOf, changeOutcome, coreOutcome};
 ghost use Rattle.standin_engine.specs.Stands.{Stands};
 
-mod frames;
+pub mod frames;
 
 // What a byte changes: nothing where it is refused; else how many bytes of a frame are held, with nothing answered, or the device by a whole
 // frame or a mode byte. So a byte that only goes on with a frame does not hand the device about.

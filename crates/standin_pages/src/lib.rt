@@ -2,19 +2,23 @@
 use rules::Chip;
 use rules::Pages;
 use rules::Task;
+use rules::Verdict;
 use standin_state::Core;
 use standin_state::Response;
+use standin_state::lent::lent_verdict;
+use standin_state::resting::unanswered;
+use standin_state::tasks::ahead;
 ghost use mathlib.Core.Path.{_≡_};
 ghost use mathlib.Core.Bool.{true, cond, _&&_};
 ghost use lib.Dec.{eqb};
 ghost use Prim.Native.Nat.{_+_, _<_, _≤_};
 ghost use lib.ListN.{length};
-ghost use Rattle.rules.specs.StandIn.{ahead, later, onPage, onCompare, answered, out, rest};
+ghost use Rattle.rules.specs.StandIn.{ahead, later, onPage, onCompare, answered, lentVerdict, out, rest};
 ghost use Rattle.rules.specs.Chip.{Memory};
 ghost use Rattle.rules.specs.Frame.{pair};
 ghost use Rattle.chip_finder.specs.LentFlashes.{memory};
 ghost use Rattle.frame_build.specs.Buffer.{frameIn};
-ghost use Rattle.standin_state.specs.View.{idle, frameOutcome, Fits};
+ghost use Rattle.standin_state.specs.View.{idle, frameOutcome, Comes, Fits, handedPage};
 
 // The pair is sent; the command goes on with that task, or has ended with none.
 fn paired(c: Core, task: Task, line: u8, status: u8, reply: &mut [u8]) -> Response
@@ -45,7 +49,7 @@ fn later(p: Pages, status: u8) -> Pages
 
 // A page of Programming: judged; then the status of the page before is told, or this page is written and, if it is the last,
 // its own status is told.
-pub fn on_page(
+fn program(
     chip: Chip,
     c: Core,
     p: Pages,
@@ -78,7 +82,7 @@ pub fn on_page(
 }
 
 // A page of Verify: judged and compared; a difference is told only with the last page.
-pub fn on_compare(
+fn compare(
     chip: Chip,
     c: Core,
     p: Pages,
@@ -118,4 +122,46 @@ fn compared(before: u8, equal: bool) -> u8
         return 0x06;
     }
     0x0F
+}
+
+// A data frame of Programming. Where what is lent does not fit, or no page is left, all stands and nothing is answered.
+pub fn on_page(
+    chip: Chip,
+    c: Core,
+    p: Pages,
+    frame: &[u8; 260],
+    code: &mut [u8],
+    data: &mut [u8],
+    reply: &mut [u8],
+) -> Response
+    ensures { λ r. ⌜ Comes r (memory (now (code .exit)) (now («data» .exit))) (now (reply .exit)) (handedPage chip p (lentVerdict chip (length (now (code .entry))) (length (now («data» .entry))) (length (now (reply .entry)))) (idle c (memory (now (code .entry)) (now («data» .entry)))) (onPage p (idle c (memory (now (code .entry)) (now («data» .entry)))) (frameIn (now (frame .entry))))) (now (reply .entry)) ⌝ }
+{
+    if let Verdict::Refused(_) = lent_verdict(chip, code.len(), data.len(), reply.len()) {
+        return unanswered(c);
+    }
+    if ahead(chip, p) {
+        return program(chip, c, p, frame, code, data, reply);
+    }
+    unanswered(c)
+}
+
+// A data frame of Verify, likewise.
+pub fn on_compare(
+    chip: Chip,
+    c: Core,
+    p: Pages,
+    frame: &[u8; 260],
+    code: &[u8],
+    data: &[u8],
+    reply: &mut [u8],
+) -> Response
+    ensures { λ r. ⌜ Comes r (memory (now (code .entry)) (now («data» .entry))) (now (reply .exit)) (handedPage chip p (lentVerdict chip (length (now (code .entry))) (length (now («data» .entry))) (length (now (reply .entry)))) (idle c (memory (now (code .entry)) (now («data» .entry)))) (onCompare p (idle c (memory (now (code .entry)) (now («data» .entry)))) (frameIn (now (frame .entry))))) (now (reply .entry)) ⌝ }
+{
+    if let Verdict::Refused(_) = lent_verdict(chip, code.len(), data.len(), reply.len()) {
+        return unanswered(c);
+    }
+    if ahead(chip, p) {
+        return compare(chip, c, p, frame, code, data, reply);
+    }
+    unanswered(c)
 }

@@ -1,12 +1,16 @@
 // The small state with nothing received.
 use crate::Core;
+use crate::Response;
 use rules::Options;
 use rules::Phase;
 use rules::Task;
 ghost use mathlib.Core.Path.{_≡_};
+ghost use mathlib.Core.List.{List};
+ghost use Prim.Native.Nat.{ℕ};
 ghost use Rattle.rules.specs.declared.Task.the-variants.{Idle};
+ghost use Rattle.rules.specs.Chip.{Memory};
 ghost use Rattle.rules.specs.StandIn.{poweredPhase};
-ghost use Rattle.standin_state.specs.View.{resting};
+ghost use Rattle.standin_state.specs.View.{resting, idle, Comes, unanswered};
 
 pub fn at_rest(phase: Phase, task: Task, options: Options) -> Core
     ensures { λ r. ⌜ r ≡ resting phase task options ⌝ }
@@ -16,6 +20,19 @@ pub fn at_rest(phase: Phase, task: Task, options: Options) -> Core
         task,
         options,
         have: 0,
+    }
+}
+
+// All stands, with nothing received and nothing answered.
+pub fn unanswered(c: Core) -> Response
+    ensures { λ r. ⌜ ((m : Memory) (reply : List ℕ) → Comes r m reply (unanswered (idle c m)) reply) ⌝ }
+{
+    let phase = c.phase;
+    let task = c.task;
+    let o = c.options;
+    Response {
+        core: at_rest(phase, task, o),
+        answered: 0,
     }
 }
 

@@ -11,6 +11,7 @@ use Rattle.rules.specs.Frame.{frameSize, lenOf}
 use Rattle.rules.specs.StandIn.{Out, answered, receive, received}
 use Rattle.chip_finder.specs.LentFlashes.{memory}
 use Rattle.frame_build.proofs.Frames.{frame-size, body-least}
+use Rattle.standin_state.proofs.Handed.{fits-taken}
 use Rattle.standin_engine.specs.View.{view, callOutcome, heldCount}
 use Rattle.standin_engine.proofs.Receives.{held-small, held-more, held-is, held-as, none-got, completed, continued, still-short}
 use borrow.Author.Needs.{needs}
@@ -83,10 +84,11 @@ returns-3 c =
     let v = view (a .c) xs (memory (now (a .code)) (now (a .«data»))) in
     let k = n e in
     let f = c .before .before .before .before .before .before .on-frame in
+    let t = fits-taken _ _ _ _ (start e .pre .1) _ _ _ _ _ _ (f .ensures) in
     ap
     (λ (g : List ℕ). callOutcome (record { phase = f .result .core .phase; task = f .result .core .task; options = f .result .core .options; got = g; memory = memory (f .last .1 .1 .1 .0) (f .last .1 .1 .1 .1 .0) }) (Answer (f .result .answered)) (f .last .1 .1 .1 .1 .1 .0))
-    (none-got (f .result .core .have) (set xs k (a .byte)) (f .ensures .1))
-    ∙ f .ensures .0
+    (none-got (f .result .core .have) (set xs k (a .byte)) (t .1))
+    ∙ t .0
     ∙ ap (λ (o : Out). answered o (now (a .reply))) (completed (a .chip) v (a .byte) xs k (some e) (fits e) (c .before .before .before .before .before .before .before .before .before .before .before .if3 .taken ∙ same-size e))
     ∙ ap (λ (g : List ℕ). answered (receive (a .chip) v g (a .byte)) (now (a .reply))) (sym (held-is k k xs (here e)))
 

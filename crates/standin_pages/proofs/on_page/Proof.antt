@@ -1,106 +1,50 @@
--- `standin_pages::on_page` meets its contract: each of its answers is an outcome of `onPage`. Assumes nothing.
-use mathlib.Core.Path.{_≡_, ap, _∙_}
-use native.Mathlib.Omega.{arith}
-use Rattle.rules.specs.declared.Task.the-variants.{Programming}
-use Rattle.rules.specs.Frame.{statusByte, dataFault}
-use Rattle.rules.specs.StandIn.{lastPage, onPage}
+-- `standin_pages::on_page` meets its contract: taken where what is lent fits and a page is left. Assumes nothing.
+use mathlib.Core.Path.{_≡_, sym, _∙_}
+use mathlib.Core.Bool.{cond}
+use lib.ListN.{length}
+use denote.Ref.{now}
+use Rattle.rules.specs.declared.Verdict.the-variants.{Accepted}
+use Rattle.rules.specs.StandIn.{ahead, onPage, lentVerdict}
 use Rattle.chip_finder.specs.LentFlashes.{memory}
 use Rattle.frame_build.specs.Buffer.{frameIn}
-use Rattle.standin_state.specs.View.{idle}
-use Rattle.standin_pages.proofs.DataFrames.{answers, countable, told, told-last, told-more, page-refused, page-stopped, page-done}
+use Rattle.standin_state.specs.View.{idle, unanswered}
+use Rattle.standin_state.proofs.Lending.{lent-fits}
+use Rattle.standin_state.proofs.Handed.{stands, page-taken, no-page}
 use borrow.Author.Needs.{needs}
 use Rattle.standin_pages.proofs.on_page.Statement.{statement}
 use Rattle.standin_pages.proofs.on_page.Tie as tie
 
--- the line status
-judged : (c : tie.After-status-byte) → let a = c .before .before .before .before .before .before .args in
-    c .status-byte .result ≡ statusByte (dataFault (lastPage (a .p)) (frameIn (a .frame .now)))
-judged c = c .status-byte .ensures ∙ ap statusByte (c .before .judge-data .ensures)
-
 returns : tie.Need-returns
 returns c =
-    let e = c .before .before .paired .ensures in
-    let t = c .before .before .before .before in
-    let l = t .before in
-    let a = l .before .before .before .before .before .before .args in
-    let m = memory (a .code .now) (a .«data» .now) in
-    let o = page-refused (a .p) (idle (a .c) m) (a .frame .now) (l .status-byte .result) (judged l) (t .if1 .taken) in
-    (answers (a .reply .now) o (e .0 m), e .1)
+    let a = c .before .before .before .before .before .before .before .args in
+    let s = idle (a .c) (memory (now (a .code)) (now (a .«data»))) in
+    let x = onPage (a .p) s (frameIn (now (a .frame))) in
+    stands _ _ _ _ s _ (cond (ahead (a .chip) (a .p)) x (unanswered s)) _ (sym (c .before .enum-told .given .1) ∙ c .before .before .before .lent-verdict .ensures) (c .unanswered .ensures _ _)
+
+accepted : (c : tie.After-enum-told2) → let a = c .before .before .before .before .before .before .args in
+    Accepted ≡ lentVerdict (a .chip) (length (now (a .code))) (length (now (a .«data»))) (length (now (a .reply)))
+accepted c = sym (c .enum-told2 .given .1) ∙ c .before .before .lent-verdict .ensures
+
+program-requires : tie.Need-program-requires
+program-requires c κs =
+    let e = c .before .before .before .before .before in
+    (sym (c .before .before .before .before .ahead .ensures) ∙ c .before .before .before .if1 .taken, lent-fits _ _ _ _ (sym (accepted e)))
 
 returns-2 : tie.Need-returns-2
 returns-2 c =
-    let e = c .before .before .paired2 .ensures in
-    let t = c .before .before .before .before in
-    let l = t .before .before in
-    let a = l .before .before .before .before .before .before .args in
-    let m = memory (a .code .now) (a .«data» .now) in
-    let o = page-stopped (a .p) (idle (a .c) m) (a .frame .now) (l .status-byte .result) (judged l) (t .before .if1 .left) (t .if2 .taken) in
-    (answers (a .reply .now) o (e .0 m), e .1)
-
--- the page is written or left
-done : (c : tie.After-program-page) → let a = c .before .before .before .before .before .before .before .before .before .before .before .before .before .args in
-    let s = idle (a .c) (memory (a .code .now) (a .«data» .now)) in
-    let m = memory (c .program-page .last .1 .1 .1 .0) (c .program-page .last .1 .1 .1 .1 .0) in
-    told Programming (a .p) s (c .program-page .result) m ≡ onPage (a .p) s (frameIn (a .frame .now))
-done c =
-    let g = c .before .before .before in
-    let t = g .before .before in
-    let l = t .before .before in
-    let r = l .before .before .before .before .before .before in
-    let a = r .args in
-    let s = idle (a .c) (memory (a .code .now) (a .«data» .now)) in
-    page-done (a .p) s (a .frame .now) (l .status-byte .result) (judged l) (a .chip) (r .pre) (t .before .if1 .left) (t .if2 .left)
-    (g .page-protected .result) (g .page-protected .ensures) _ _ (c .program-page .ensures)
+    let a = c .before .before .before .before .before .before .before .before .before .before .before .before .before .before .before .before .before .before .args in
+    let s = idle (a .c) (memory (now (a .code)) (now (a .«data»))) in
+    let x = onPage (a .p) s (frameIn (now (a .frame))) in
+    page-taken _ _ _ _ s _ x (a .chip) (a .p) (accepted (c .before .before .before .before .before .before .before .before .before .before .before .before)) (sym (c .before .before .before .before .before .before .before .before .before .before .before .ahead .ensures) ∙ c .before .before .before .before .before .before .before .before .before .before .if1 .taken) (c .before .before .before .before .before .before .program .ensures)
 
 returns-3 : tie.Need-returns-3
 returns-3 c =
-    let e = c .before .before .paired3 .ensures in
-    let t = c .before .before .before .before in
-    let w = t .before .before .before .before .before in
-    let a = w .before .before .before .before .before .before .before .before .before .before .before .before .before .args in
-    let s = idle (a .c) (memory (a .code .now) (a .«data» .now)) in
-    let m = memory (w .program-page .last .1 .1 .1 .0) (w .program-page .last .1 .1 .1 .1 .0) in
-    let o = told-last Programming (a .p) s (w .program-page .result) m (t .if3 .taken) in
-    (answers (a .reply .now) (o ∙ done w) (e .0 m), e .1)
-
-later-requires : tie.Need-later-requires
-later-requires c κs =
-    let r = c .before .before .before .before .before .before .before .before .before .before .before .before .before .before .before .before .before .before in countable (r .args .chip) (r .args .p) (r .pre .0) (omega arith) (omega arith)
-
-returns-4 : tie.Need-returns-4
-returns-4 c =
-    let e = c .before .before .paired4 .ensures in
-    let q = c .before .before .before .before in
-    let t = q .before in
-    let w = t .before .before .before .before .before in
-    let a = w .before .before .before .before .before .before .before .before .before .before .before .before .before .args in
-    let s = idle (a .c) (memory (a .code .now) (a .«data» .now)) in
-    let m = memory (w .program-page .last .1 .1 .1 .0) (w .program-page .last .1 .1 .1 .1 .0) in
-    let o = told-more Programming (a .p) s (w .program-page .result) m (t .if3 .left) (q .later .result) (q .later .ensures) in
-    (answers (a .reply .now) (o ∙ done w) (e .0 m), e .1)
+    let a = c .before .before .before .before .before .before .before .before .before .args in
+    let s = idle (a .c) (memory (now (a .code)) (now (a .«data»))) in
+    let x = onPage (a .p) s (frameIn (now (a .frame))) in
+    no-page _ _ _ _ s _ x (a .chip) (a .p) (accepted (c .before .before .before)) (sym (c .before .before .ahead .ensures) ∙ c .before .if1 .left) (c .unanswered2 .ensures _ _)
 
 pub on-page-spec : {M : Type 1} → statement M
 on-page-spec =
     tie.close
-    (tie.spec
-    (λ c κs. search needs)
-    (λ c κs. search needs)
-    (λ c κs. search needs)
-    (λ c. search needs)
-    returns
-    (λ c κs. search needs)
-    (λ c. search needs)
-    returns-2
-    (λ c κs. search needs)
-    (λ c κs. search needs)
-    (λ c κs. search needs)
-    (λ c. search needs)
-    (λ c. search needs)
-    (λ c. search needs)
-    returns-3
-    later-requires
-    (λ c κs. search needs)
-    (λ c. search needs)
-    (λ c. search needs)
-    (λ c. search needs)
-    returns-4)
+    (tie.spec (λ c κs. search needs) (λ c. search needs) (λ c κs. search needs) returns (λ c. search needs) (λ c κs. search needs) program-requires (λ c. search needs) (λ c. search needs) (λ c. search needs) returns-2 (λ c κs. search needs) returns-3)

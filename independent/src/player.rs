@@ -81,21 +81,20 @@ pub enum Awaited {
 }
 
 impl Awaited {
-    /// Whether this step, as the sheet now has it, awaits this.
+    /// Whether a step of the right kind has this block or page.
     fn is_in(self, step: &Step) -> bool {
         match self {
-            Awaited::Block(block) => step.kind == Kind::Erase && block < step.span.blocks(),
-            Awaited::Opening => step.kind.has_body(),
-            Awaited::Page(page) => step.kind.has_body() && page < step.span.pages(),
-            Awaited::Sum => step.kind == Kind::Sum,
+            Awaited::Block(block) => block < step.span.blocks(),
+            Awaited::Page(page) => page < step.span.pages(),
+            Awaited::Opening | Awaited::Sum => true,
         }
     }
 
-    /// What earlier replies of the step made sure: each block answered 06h;
-    /// the pages before k (counted from 1) by (06h, 06h) to write frame k. The
-    /// step's kind is that of the sheet given now.
-    fn pieces_before(self, step: &Step) -> usize {
-        match (step.kind, self) {
+    /// What earlier replies of a step of this kind made sure: each block
+    /// answered 06h; the pages before k (counted from 1) by (06h, 06h) to
+    /// write frame k.
+    fn pieces_before(self, kind: Kind) -> usize {
+        match (kind, self) {
             (Kind::Erase, Awaited::Block(block)) => block,
             (Kind::Write, Awaited::Page(page)) => page.saturating_sub(1),
             _ => 0,
@@ -106,7 +105,8 @@ impl Awaited {
 #[derive(Clone, Copy, Debug, PartialEq, Eq)]
 enum Stage {
     NotBegun,
-    Awaiting(Awaited),
+    /// With the kind of the step begun.
+    Awaiting(Kind, Awaited),
     Ended(Status),
 }
 
@@ -137,7 +137,7 @@ impl Player {
 
     pub fn awaited(&self) -> Option<Awaited> {
         match self.stage {
-            Stage::Awaiting(awaited) => Some(awaited),
+            Stage::Awaiting(_, awaited) => Some(awaited),
             _ => None,
         }
     }
@@ -162,11 +162,12 @@ impl Player {
         match self.stage {
             Stage::Ended(status) => Ok(Turn::End(self.report(status))),
             Stage::NotBegun => Ok(self.begin_step(&sheet)),
-            Stage::Awaiting(awaited) => {
+            Stage::Awaiting(kind, awaited) => {
+                // A step of another kind is not the step that was begun.
                 let step = sheet
                     .steps
                     .get(self.step)
-                    .filter(|step| awaited.is_in(step))
+                    .filter(|step| step.kind == kind && awaited.is_in(step))
                     .ok_or(Refusal::P2)?;
                 Ok(self.hear(&sheet, step, awaited, reply, sums))
             }
@@ -182,8 +183,8 @@ impl Player {
         Turn::End(self.report(status))
     }
 
-    fn send(&mut self, awaited: Awaited, frame: Vec<u8>) -> Turn {
-        self.stage = Stage::Awaiting(awaited);
+    fn send(&mut self, step: &Step, awaited: Awaited, frame: Vec<u8>) -> Turn {
+        self.stage = Stage::Awaiting(step.kind, awaited);
         self.frames += 1;
         Turn::Frame(frame)
     }
@@ -197,22 +198,25 @@ impl Player {
             Kind::Erase => self.send_block(step, 0),
             Kind::Write => self.send_opening(step, code::PROGRAM),
             Kind::Verify => self.send_opening(step, code::VERIFY),
-            Kind::Sum => self.send(Awaited::Sum, frames::pair_command(code::CHECKSUM, step.span)),
+            Kind::Sum => {
+                let frame = frames::pair_command(code::CHECKSUM, step.span);
+                self.send(step, Awaited::Sum, frame)
+            }
         }
     }
 
     fn send_block(&mut self, step: &Step, block: usize) -> Turn {
-        self.send(Awaited::Block(block), frames::erase_command(step.span.block(block)))
+        self.send(step, Awaited::Block(block), frames::erase_command(step.span.block(block)))
     }
 
     fn send_opening(&mut self, step: &Step, code: u8) -> Turn {
-        self.send(Awaited::Opening, frames::pair_command(code, step.span))
+        self.send(step, Awaited::Opening, frames::pair_command(code, step.span))
     }
 
     fn send_page(&mut self, step: &Step, page: usize) -> Turn {
         let bytes = &step.body[page * PAGE..(page + 1) * PAGE];
         let last = page + 1 == step.span.pages();
-        self.send(Awaited::Page(page), frames::page_frame(bytes, last))
+        self.send(step, Awaited::Page(page), frames::page_frame(bytes, last))
     }
 
     /// Judges the reply and goes on.
@@ -227,7 +231,7 @@ impl Player {
         let sum = match read_reply(awaited, reply) {
             Ok(sum) => sum,
             Err(status) => {
-                self.pieces = awaited.pieces_before(step);
+                self.pieces = awaited.pieces_before(step.kind);
                 return self.end(status);
             }
         };

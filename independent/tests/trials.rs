@@ -239,3 +239,27 @@ fn player_refusals_and_ends() {
     let end = format!("end L1 steps 0 frames 1 pieces 0\n{no_sum}");
     assert_eq!(frames(&script), format!("> 01 04 22 00 10 0F BB 03\nrefused P2\n{end}"));
 }
+
+#[test]
+fn a_step_of_another_kind_is_not_the_step_begun() {
+    let frames = |script: &str| run(&["frames"], script.as_bytes());
+    let sheet = |kind: u8| {
+        let body = if kind == 2 || kind == 3 { " FF".repeat(256) } else { String::new() };
+        format!("sheet 01 00 {kind:02X} 00 10 0F FF 10 0F 00 0E 00 00 00{body}\n")
+    };
+    let ack = "< 02 01 06 F9 03\n";
+    for begun in 1..=4 {
+        for given in 1..=4 {
+            let script = format!("sums 1\n{}go\n{}{ack}", sheet(begun), sheet(given));
+            let text = frames(&script);
+            let refused = text.ends_with("refused P2\n");
+            assert_eq!(refused, begun != given, "begun {begun}, given {given}: {text}");
+        }
+    }
+    // State and buffers stand: the write goes on with its own sheet.
+    let script = format!("sums 1\n{}go\n{}{ack}{}{ack}", sheet(2), sheet(3), sheet(2));
+    let page = format!("> 02 00{} 00 03\n", " FF".repeat(256));
+    let text = frames(&script);
+    assert!(text.contains("refused P2\n> 02 00 FF"), "{text}");
+    assert!(text.ends_with(&page), "{text}");
+}

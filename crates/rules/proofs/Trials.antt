@@ -32,6 +32,11 @@ pub call-trials : allCall playerCalls ≡ true
 unfolding everything calls allCall playerCalls
 call-trials = refl
 
+-- what is printed, trials 15 and 16 among them
+pub text-trials : allPrint texts ≡ true
+unfolding everything allPrint printed texts
+text-trials = refl
+
 -- ---- what the rows say ----
 
 pub starred-say : All Held starred
@@ -48,7 +53,3 @@ lengths-say = all-lent lengths length-trials
 
 pub calls-say : All Answers playerCalls
 calls-say = all-answer playerCalls call-trials
--- what is printed, trials 15 and 16 among them
-pub text-trials : allPrint texts ≡ true
-unfolding everything allPrint printed texts
-text-trials = refl

@@ -173,13 +173,15 @@ impl Play<'_> {
             0 => plan.steps.truncate(self.random.between(step.saturating_sub(1), step + 1)),
             1 => plan = random_plan(&mut self.random),
             2 => plan.steps.push(self.random_step(None)),
-            // Write and verify await the same.
+            // Another kind over the same blocks. Write and verify await the
+            // same, but are not the same step.
             3 | 4 => {
                 if let Some(step) = plan.steps.get_mut(step) {
                     step.kind = match step.kind {
                         Kind::Write => Kind::Verify,
                         Kind::Verify => Kind::Write,
-                        kind => kind,
+                        Kind::Erase => Kind::Sum,
+                        Kind::Sum => Kind::Erase,
                     };
                 }
             }

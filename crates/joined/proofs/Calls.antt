@@ -27,7 +27,7 @@ use Rattle.joined_laws.specs.Turns.{Sized, Fit}
 use Rattle.joined.specs.declared.Answer.the-variants.{Refused, NotAtStep, Busy, Played}
 use Rattle.joined_checks.specs.Checks.{joinedVerdict, isReady, startsStep}
 use Rattle.joined.specs.Plays.{outcome, sheetOutcome, lengths, judged, allPlayed, stepPlayed, sheetPlayed}
-use Rattle.joined_step.specs.Turn.{Rooms, StepReady}
+use Rattle.joined.specs.Turn.{Rooms, StepReady}
 use Rattle.joined.specs.Ready.{PlayReady}
 
 -- ---- outcomes ----

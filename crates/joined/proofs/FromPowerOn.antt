@@ -42,7 +42,7 @@ use Rattle.joined_laws.proofs.LengthsKept.{feed-kept}
 use Rattle.joined_laws.proofs.Opened.{ident-there, opens}
 use Rattle.joined_laws.proofs.Run.{run-means}
 use Rattle.joined_checks.specs.Checks.{joinedVerdict}
-use Rattle.joined_step.specs.Rigs.{rigged}
+use Rattle.joined.specs.Rigs.{rigged}
 use Rattle.joined.specs.declared.Answer as answers
 use Rattle.joined.specs.declared.Played.{Played}
 use Rattle.joined.specs.Plays.{SheetOutcome, sheetOutcome, lengths, sheetPlayed}

@@ -1,3 +1,5 @@
+pub mod Turning
+pub mod Within
 pub mod Calls
 pub mod Means
 pub mod Outcomes

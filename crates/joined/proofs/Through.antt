@@ -25,7 +25,7 @@ use Rattle.joined_laws.specs.Turns.{Sized}
 use Rattle.joined_laws.proofs.Run.{Before, doneAt, Played, played, over-ends, begun-as, before-first}
 use Rattle.joined_laws.proofs.Turns.{any-turn-as}
 use Rattle.joined.specs.Plays.{isOver, playedTo, allPlayed}
-use Rattle.joined_step.specs.Turn.{Rooms, StepReady}
+use Rattle.joined.specs.Turn.{Rooms, StepReady}
 use Rattle.joined.specs.Ready.{PlayReady}
 
 -- over a clean line it does not matter how many frames went before

@@ -14,7 +14,7 @@ use Rattle.rules.specs.Player.{newPlayer}
 use Rattle.rules.specs.Run.{Joined, clean, run, stepRun, waits}
 use Rattle.joined_checks.specs.declared.LentSizes.{LentSizes}
 use Rattle.joined_checks.specs.Checks.{joinedVerdict, startsStep}
-use Rattle.joined_step.specs.declared.Rig.{Rig}
+use Rattle.joined.specs.declared.Rig.{Rig}
 use Rattle.joined.specs.declared.Answer.{Answer}
 use Rattle.joined.specs.declared.Answer.the-variants.{Refused, NotAtStep, Busy, Played}
 

@@ -6,7 +6,7 @@ use Prim.Native.Nat.{ℕ}
 use Rattle.rules.specs.declared.Chip.{Chip}
 use Rattle.rules.specs.declared.Stage.the-variants.{New}
 use Rattle.rules.specs.Run.{Joined, waits}
-use Rattle.joined_step.specs.Turn.{Rooms}
+use Rattle.joined.specs.Turn.{Rooms}
 use Rattle.joined_laws.specs.Turns.{Sized, Fit}
 
 -- a sheet: the player is a new one, and the stand-in waits for a command

@@ -2,15 +2,15 @@
 use super::Answer;
 use super::Played;
 use joined_checks::LentSizes;
-use joined_step::Rig;
-use joined_step::step::step_through;
+use crate::Rig;
+use crate::stepping::step_through;
 use rules::Chip;
 use rules::Player;
 use rules::Verdict;
 use standin_state::Core;
 ghost use mathlib.Core.Path.{_≡_};
 ghost use Rattle.joined_laws.specs.Turns.{Sized};
-ghost use Rattle.joined_step.specs.Rigs.{rigged};
+ghost use Rattle.joined.specs.Rigs.{rigged};
 ghost use Rattle.joined.specs.Plays.{outcome, stepPlayed, given, Stands};
 
 // The step at whose beginning the player stands. Where it is not played, all stands, to the byte.

@@ -2,8 +2,8 @@
 use super::Answer;
 use super::Played;
 use joined_checks::LentSizes;
-use joined_step::Rig;
-use joined_step::step::step_through;
+use crate::Rig;
+use crate::stepping::step_through;
 use player_absorb::absorb;
 use player_absorb::new_player;
 use rules::Chip;
@@ -17,7 +17,7 @@ ghost use Prim.Native.Nat.{_-_};
 ghost use lib.ListN.{set};
 ghost use Rattle.rules.specs.Player.{newPlayer};
 ghost use Rattle.joined_laws.specs.Turns.{Sized};
-ghost use Rattle.joined_step.specs.Rigs.{rigged};
+ghost use Rattle.joined.specs.Rigs.{rigged};
 ghost use Rattle.joined.specs.Plays.{isOver, sheetOutcome, playedTo, allPlayed, sheetPlayed, given, Stands};
 ghost use Rattle.joined.specs.Ready.{PlayReady};
 

@@ -2,7 +2,7 @@
 use mathlib.Core.Path.{refl, sym, ap, _∙_}
 use borrow.Author.Tests.{not-true, not-false}
 use Rattle.rules.specs.Run.{Joined}
-use Rattle.joined_step.specs.Rigs.{rigged}
+use Rattle.joined.specs.Rigs.{rigged}
 use Rattle.joined.specs.Plays.{outcome}
 use Rattle.joined.specs.declared.Answer.the-variants.{Played}
 use Rattle.joined.proofs.Calls.{step-refused, step-not-begun, step-busy, step-played, starts}

@@ -4,7 +4,7 @@ use borrow.Author.Tests.{not-true, not-false}
 use Rattle.rules.specs.declared.Player.{Player}
 use Rattle.rules.specs.Player.{newPlayer}
 use Rattle.rules.specs.Run.{Joined}
-use Rattle.joined_step.specs.Rigs.{rigged}
+use Rattle.joined.specs.Rigs.{rigged}
 use Rattle.joined_checks.specs.Checks.{joinedVerdict}
 use Rattle.joined.specs.Plays.{lengths, sheetPlayed, Given, given}
 use Rattle.joined.proofs.Calls.{sheet-refused, sheet-busy, sheet-played, opens}

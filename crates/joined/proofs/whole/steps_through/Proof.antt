@@ -7,8 +7,8 @@ use borrow.Author.Needs.{needs}
 use Rattle.rules.specs.Run.{Joined, takenIn}
 use Rattle.rules.specs.Sheet.{count}
 use Rattle.joined_laws.specs.Turns.{Sized}
-use Rattle.joined_step.specs.Rigs.{rigged}
-use Rattle.joined_step.specs.Turn.{Rooms}
+use Rattle.joined.specs.Rigs.{rigged}
+use Rattle.joined.specs.Turn.{Rooms}
 use Rattle.joined.proofs.Through.{Through, first-call, ended-as, opening, told-over, all-done, may-start, step-done}
 use Rattle.joined.proofs.whole.steps_through.Statement.{statement}
 use Rattle.joined.proofs.whole.steps_through.Tie as tie

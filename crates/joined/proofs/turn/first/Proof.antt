@@ -1,12 +1,12 @@
--- `joined_step::turn::first` meets its contract. Assumes nothing.
+-- `joined::turn::first` meets its contract. Assumes nothing.
 use mathlib.Core.Path.{_≡_, sym, ap}
 use Prim.Native.Nat.{ℕ, _-_}
 use lib.ListN.{take}
 use native.Mathlib.Omega.{arith}
 use lib.Seq.{take-all}
 use borrow.Author.Needs.{needs}
-use Rattle.joined_step.proofs.turn.first.Statement.{statement}
-use Rattle.joined_step.proofs.turn.first.Tie as tie
+use Rattle.joined.proofs.turn.first.Statement.{statement}
+use Rattle.joined.proofs.turn.first.Tie as tie
 
 returns : tie.Need-returns
 returns c = let a = c .before .args in sym (take-all (a .n) (a .s .now) (omega (arith, c .if1 .taken)))

@@ -11,7 +11,7 @@ use Rattle.rules.specs.Run.{clean, Joined, Ran, ran, turned, between, stepFrom,
 use Rattle.joined_laws.specs.Turns.{Sized, stepLeaves}
 use Rattle.joined_laws.proofs.Turns.{Mid, Turned, Ends, Goes, mid-frame, mid-found, turn, any-turn-as}
 use Rattle.joined_laws.proofs.Steps.{begin}
-use Rattle.joined_step.specs.Turn.{Rooms, TurnReady, StepReady}
+use Rattle.joined.specs.Turn.{Rooms, TurnReady, StepReady}
 
 -- the states of the step that was begun at `j`
 abbrev In : Chip → List ℕ → Joined → ℕ → Joined → Type 0

@@ -11,8 +11,8 @@ ghost use mathlib.Core.Path.{_≡_};
 ghost use lib.ListN.{take};
 ghost use Rattle.rules.specs.Run.{clean, turned, between};
 ghost use Rattle.joined_laws.specs.Turns.{Sized};
-ghost use Rattle.joined_step.specs.Rigs.{rigged, answerSize};
-ghost use Rattle.joined_step.specs.Turn.{TurnReady};
+ghost use Rattle.joined.specs.Rigs.{rigged, answerSize};
+ghost use Rattle.joined.specs.Turn.{TurnReady};
 
 // How many bytes a feeding answered.
 fn size_of(call: Call) -> usize

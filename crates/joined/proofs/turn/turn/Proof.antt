@@ -1,14 +1,14 @@
--- `joined_step::turn::turn` meets its contract: its parts one after the other are a turn. Assumes nothing.
+-- `joined::turn::turn` meets its contract: its parts one after the other are a turn. Assumes nothing.
 use mathlib.Core.Path.{_≡_, ap, _∙_}
 use mathlib.Core.List.{List}
 use Prim.Native.Nat.{ℕ}
 use lib.ListN.{length}
 use Rattle.standin.specs.Feeding.{fedInto}
 use Rattle.player_absorb.specs.Absorbing.{absorbedIn}
-use Rattle.joined_step.proofs.Turning.{turn-made}
+use Rattle.joined.proofs.Turning.{turn-made}
 use borrow.Author.Needs.{needs}
-use Rattle.joined_step.proofs.turn.turn.Statement.{statement}
-use Rattle.joined_step.proofs.turn.turn.Tie as tie
+use Rattle.joined.proofs.turn.turn.Statement.{statement}
+use Rattle.joined.proofs.turn.turn.Tie as tie
 
 -- the frame buffer keeps its length
 kept : (c : tie.After-emit) → length (c .emit .last .1 .1 .1 .0) ≡ length (c .before .before .before .before .before .before .before .before .before .before .args .frame .now)

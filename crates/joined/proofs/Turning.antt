@@ -25,8 +25,8 @@ use Rattle.joined_laws.specs.Hears.{hears}
 use Rattle.joined_laws.specs.Turns.{Framed}
 use Rattle.joined_laws.proofs.FramesHeard.{Fresh, fresh-command, hears-whole}
 use Rattle.joined_laws.proofs.Turns.{turn-as}
-use Rattle.joined_step.specs.Rigs.{answerSize}
-use Rattle.joined_step.specs.Turn.{TurnReady}
+use Rattle.joined.specs.Rigs.{answerSize}
+use Rattle.joined.specs.Turn.{TurnReady}
 
 -- ---- a buffer whose first bytes were replaced ----
 

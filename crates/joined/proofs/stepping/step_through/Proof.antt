@@ -1,4 +1,4 @@
--- `joined_step::step::step_through` meets its contract: the run of the step leads to every turn. Assumes nothing.
+-- `joined::stepping::step_through` meets its contract: the run of the step leads to every turn. Assumes nothing.
 use mathlib.Core.Path.{_≡_, refl, sym, ap, _∙_}
 use Prim.Native.Nat.{_-_, _≤_}
 use native.Mathlib.Omega.{arith}
@@ -6,11 +6,11 @@ use lib.ListN.{length}
 use borrow.Author.Needs.{needs}
 use Rattle.rules.specs.Run.{mostFrames}
 use Rattle.joined_laws.specs.Turns.{Sized}
-use Rattle.joined_step.specs.Rigs.{rigged}
-use Rattle.joined_step.specs.Turn.{Rooms}
-use Rattle.joined_step.proofs.Within.{Within, starting, turnable, ends-here, goes-on}
-use Rattle.joined_step.proofs.step.step_through.Statement.{statement}
-use Rattle.joined_step.proofs.step.step_through.Tie as tie
+use Rattle.joined.specs.Rigs.{rigged}
+use Rattle.joined.specs.Turn.{Rooms}
+use Rattle.joined.proofs.Within.{Within, starting, turnable, ends-here, goes-on}
+use Rattle.joined.proofs.stepping.step_through.Statement.{statement}
+use Rattle.joined.proofs.stepping.step_through.Tie as tie
 
 abbrev Inv-loop : tie.InvT-loop
 Inv-loop chip sheet held₀ code₀ data₀ reply₀ frame₀ sums₀ most rig₀ i₀ held code «data» reply frame sums rig i =

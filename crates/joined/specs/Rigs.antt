@@ -7,7 +7,7 @@ use Rattle.rules.specs.declared.Call.the-variants as call
 use Rattle.rules.specs.Run.{Joined, joining}
 use Rattle.chip_finder.specs.LentFlashes.{memory}
 use Rattle.standin_engine.specs.View.{view}
-use Rattle.joined_step.specs.declared.Rig.{Rig}
+use Rattle.joined.specs.declared.Rig.{Rig}
 
 -- what player, stand-in and all that is lent show: the last answer stands at the beginning of the reply buffer
 abbrev pub rigged : Rig → List ℕ → List ℕ → List ℕ → List ℕ → List ℕ → List ℕ → Joined

@@ -7,11 +7,11 @@ use sheet::steps::step_at;
 ghost use mathlib.Core.Path.{_≡_};
 ghost use Rattle.rules.specs.Run.{clean, stepRun};
 ghost use Rattle.joined_laws.specs.Turns.{Sized};
-ghost use Rattle.joined_step.specs.Rigs.{rigged};
-ghost use Rattle.joined_step.specs.Turn.{StepReady};
+ghost use Rattle.joined.specs.Rigs.{rigged};
+ghost use Rattle.joined.specs.Turn.{StepReady};
 
 // From the beginning of a step to the beginning of the next, or the end.
-pub fn step_through(
+pub(crate) fn step_through(
     chip: Chip,
     sheet: &[u8],
     r: Rig,

@@ -1,8 +1,8 @@
--- `joined_step::turn::between` meets its contract, stage by stage. Assumes nothing.
+-- `joined::turn::between` meets its contract, stage by stage. Assumes nothing.
 use Rattle.rules.specs.Run.{between, betweenIn}
 use borrow.Author.Needs.{needs}
-use Rattle.joined_step.proofs.turn.between.Statement.{statement}
-use Rattle.joined_step.proofs.turn.between.Tie as tie
+use Rattle.joined.proofs.turn.between.Statement.{statement}
+use Rattle.joined.proofs.turn.between.Tie as tie
 
 returns : tie.Need-returns
 unfolding between betweenIn

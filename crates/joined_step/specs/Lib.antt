@@ -1,2 +1,0 @@
-pub mod Rigs
-pub mod Turn

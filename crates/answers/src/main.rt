@@ -2,18 +2,12 @@
 mod run;
 
 use text_lines::lines;
-use text_lines::part;
-use text_script::echo;
-
-// Reads the input to its end, or until the room is full; how many bytes there are.
-fn read(input: &mut [u8]) -> usize {
-    let n = io::read_full(0, input);
-    echo::raise(input, n);
-    n
-}
+use text_read::part;
 
 fn main() {
     let mut input = lines::room();
-    let n = read(&mut input);
+    let n = io::read_full(0, &mut input);
+    // a longer input ends within a line: its last byte is no LF
+    input[lines::LIMIT] = 0;
     run::script(part::between(&input, 0, n));
 }

@@ -1,20 +1,23 @@
 // A whole script: its lines one after the other, up to its end or the first bad one.
-use text_lines::in_hand;
-use text_lines::in_hand::InHand;
+use rules::Chip;
+use rules::Flash;
 use text_lines::lines::bad_line;
-use text_lines::lines::line_length;
 use text_lines::lines::room_for_bytes;
-use text_lines::part;
+use text_read::in_hand;
+use text_read::in_hand::InHand;
+use text_read::line::line_end;
 use text_play::told::play_told;
-use text_script::chip;
-use text_script::chip::State;
+use text_read::part;
 use text_script::script_line;
 use text_script::script_line::Line;
+use text_script::send;
+use text_script::session;
+use text_script::session::Session;
 use text_script::show;
 
 // What stands between two lines.
 struct Between {
-    chip: State,
+    session: Session,
     sheet: InHand,
 }
 
@@ -25,56 +28,65 @@ fn is_bad(said: Line) -> bool {
     }
 }
 
+fn fresh(s: Session, code: &mut [u8], data: &mut [u8]) -> Session {
+    let d = s.device;
+    session::fresh(d.chip, code, data)
+}
+
+// The bytes of a row stored, and the power off.
+fn store(s: Session, f: Flash, at: usize, row: &[u8], code: &mut [u8], data: &mut [u8]) -> Session {
+    session::store(f, at, row, code, data);
+    let d = s.device;
+    let c = d.core;
+    let o = c.options;
+    session::off(s, o)
+}
+
+fn power_on(s: Session, code: &[u8], data: &[u8]) -> Session {
+    io::write_all(1, b"!\n");
+    session::power_on(s, code, data)
+}
+
+fn show<'a>(s: Session, code: &'a [u8], data: &'a [u8]) -> Session {
+    show::all(s, code, data);
+    s
+}
+
 // The sheet played to the chip as it stands. With the power off it is Silent, and so it does not wait for a command.
-fn play(
-    chip: State,
-    sheet: &[u8],
-    held: &mut [u8; 260],
-    code: &mut [u8],
-    data: &mut [u8],
-) -> State {
-    let c = chip.core;
+fn play(s: Session, sheet: &[u8], code: &mut [u8], data: &mut [u8]) -> Session {
+    let mut d = s.device;
+    let chip = d.chip;
+    let c = d.core;
     let mut text = [0u8; text_told::ROOM];
-    let told = play_told(chip_finder::small(), sheet, c, held, code, data, &mut text);
+    let told = play_told(chip, sheet, c, &mut d.held, code, data, &mut text);
     io::write_all(1, part::between(&text, 0, told.size));
     let core = told.core;
-    State { on: chip.on, core }
+    d.core = core;
+    Session {
+        on: s.on,
+        device: d,
+    }
 }
 
 // What a line does to the chip; one of a sheet, and a bad one, do nothing.
 fn act(
     said: Line,
     text: &[u8],
-    chip: State,
+    s: Session,
     sheet: &[u8],
-    held: &mut [u8; 260],
     code: &mut [u8],
     data: &mut [u8],
-) -> State {
+) -> Session {
     match said {
-        Line::Bad => chip,
-        Line::Fresh => chip::fresh(code, data),
-        Line::Stored(o) => chip::off(o),
-        Line::Store(f, at) => chip::store(
-            chip,
-            f,
-            at,
-            part::rest(text, script_line::STORED),
-            code,
-            data,
-        ),
-        Line::PowerOn => chip::power_on(chip),
-        Line::Bytes => chip::send(
-            chip,
-            text,
-            part::rest(text, script_line::SENT),
-            held,
-            code,
-            data,
-        ),
-        Line::Show => show::all(chip, &*code, &*data),
-        Line::Sheet => chip,
-        Line::Play => play(chip, sheet, held, code, data),
+        Line::Bad => s,
+        Line::Fresh => fresh(s, code, data),
+        Line::Stored(o) => session::off(s, o),
+        Line::Store(f, at) => store(s, f, at, part::rest(text, script_line::STORED), code, data),
+        Line::PowerOn => power_on(s, &*code, &*data),
+        Line::Bytes => send::line(s, part::rest(text, script_line::SENT), code, data),
+        Line::Show => show(s, &*code, &*data),
+        Line::Sheet => s,
+        Line::Play => play(s, sheet, code, data),
     }
 }
 
@@ -84,46 +96,31 @@ fn run(
     text: &[u8],
     b: Between,
     sheet: &mut [u8],
-    held: &mut [u8; 260],
     code: &mut [u8],
     data: &mut [u8],
 ) -> Between {
     let before = b.sheet;
     let put = in_hand::after(before, text, sheet);
-    let chip = b.chip;
-    let after = act(
-        said,
-        text,
-        chip,
-        in_hand::bytes(put, &*sheet),
-        held,
-        code,
-        data,
-    );
+    let s = b.session;
+    let after = act(said, text, s, in_hand::bytes(put, &*sheet), code, data);
     Between {
-        chip: after,
+        session: after,
         sheet: put,
     }
 }
 
 // The lines of a script; the number of the bad one that ended it, or 0.
-fn lines(
-    text: &[u8],
-    sheet: &mut [u8],
-    held: &mut [u8; 260],
-    code: &mut [u8],
-    data: &mut [u8],
-) -> usize {
+fn lines(chip: Chip, text: &[u8], sheet: &mut [u8], code: &mut [u8], data: &mut [u8]) -> usize {
     let mut b = Between {
-        chip: chip::fresh(code, data),
+        session: session::fresh(chip, code, data),
         sheet: in_hand::empty(),
     };
     let mut at: usize = 0;
     let mut number: usize = 0;
     while at < text.len() {
         number += 1;
-        let end = at + line_length(text, at);
-        if end == text.len() {
+        let end = line_end(text, at);
+        if end >= text.len() {
             return number;
         }
         let line = part::between(text, at, end);
@@ -131,17 +128,16 @@ fn lines(
         if is_bad(said) {
             return number;
         }
-        b = run(said, line, b, sheet, held, code, data);
+        b = run(said, line, b, sheet, code, data);
         at = end + 1;
     }
     0
 }
 
 // A whole script, on a fresh chip with the power off and with an empty sheet in hand.
-pub fn script(text: &[u8]) {
+pub(crate) fn script(text: &[u8]) {
     let mut sheet = room_for_bytes();
     let mut code = [0u8; 32768];
     let mut data = [0u8; 2048];
-    let mut held = [0u8; 260];
-    bad_line(lines(text, &mut sheet, &mut held, &mut code, &mut data));
+    bad_line(lines(chip_finder::small(), text, &mut sheet, &mut code, &mut data));
 }

@@ -1,24 +1,24 @@
 // What the player is called with: the sheet in hand, the sizes of what is lent, and its record.
 use crate::show;
 use rules::Player;
-use text_lines::hex;
-use text_lines::in_hand;
-use text_lines::in_hand::InHand;
-use text_lines::part;
+use text_read::in_hand;
+use text_read::in_hand::InHand;
+use text_read::part;
+use text_read::rows;
 ghost use Prim.Native.Nat.{_≤_};
 
 // Between two lines: the sheet, and how many entries and bytes are lent. Until a play has begun the record is that of a
 // player before its first call.
-pub struct Hand {
-    pub sheet: InHand,
-    pub sums: usize,
-    pub room: usize,
-    pub begun: bool,
-    pub player: Player,
+pub(crate) struct Hand {
+    pub(crate) sheet: InHand,
+    pub(crate) sums: usize,
+    pub(crate) room: usize,
+    pub(crate) begun: bool,
+    pub(crate) player: Player,
 }
 
 // Before the first line.
-pub fn empty() -> Hand {
+pub(crate) fn empty() -> Hand {
     Hand {
         sheet: in_hand::empty(),
         sums: 64,
@@ -35,7 +35,7 @@ fn clear(sums: &mut [u16]) {
 }
 
 // A list of so many entries, all 0, is lent from now on.
-pub fn lend_sums(h: Hand, n: usize, sums: &mut [u16]) -> Hand {
+pub(crate) fn lend_sums(h: Hand, n: usize, sums: &mut [u16]) -> Hand {
     clear(sums);
     let mut h = h;
     h.sums = n;
@@ -43,14 +43,14 @@ pub fn lend_sums(h: Hand, n: usize, sums: &mut [u16]) -> Hand {
 }
 
 // A frame buffer of so many bytes is lent from now on.
-pub fn lend_room(h: Hand, n: usize) -> Hand {
+pub(crate) fn lend_room(h: Hand, n: usize) -> Hand {
     let mut h = h;
     h.room = n;
     h
 }
 
 // A play begins.
-pub fn begin(h: Hand) -> Hand {
+pub(crate) fn begin(h: Hand) -> Hand {
     let mut h = h;
     h.begun = true;
     h.player = player_absorb::new_player();
@@ -77,7 +77,7 @@ fn next(p: Player, sheet: &[u8], reply: &[u8], frame: &mut [u8], sums: &mut [u16
 }
 
 // A call with the bytes of a row as the reply.
-pub fn call(
+pub(crate) fn call(
     h: Hand,
     row: &[u8],
     sheet: &[u8],
@@ -86,7 +86,7 @@ pub fn call(
     sums: &mut [u16],
 ) -> Hand {
     let mut h = h;
-    let end = hex::store(reply, 0, row);
+    let end = rows::store(reply, 0, row);
     let room = least(h.room, frame.len());
     let entries = least(h.sums, sums.len());
     let p = h.player;

@@ -3,11 +3,11 @@ use crate::hand;
 use crate::hand::Hand;
 use crate::script_line;
 use crate::script_line::Line;
-use text_lines::in_hand;
 use text_lines::lines::bad_line;
-use text_lines::lines::line_length;
 use text_lines::lines::room_for_bytes;
-use text_lines::part;
+use text_read::in_hand;
+use text_read::line::line_end;
+use text_read::part;
 
 fn is_bad(said: Line) -> bool {
     match said {
@@ -80,8 +80,8 @@ fn lines(
     let mut number: usize = 0;
     while at < text.len() {
         number += 1;
-        let end = at + line_length(text, at);
-        if end == text.len() {
+        let end = line_end(text, at);
+        if end >= text.len() {
             return number;
         }
         let line = part::between(text, at, end);
@@ -96,7 +96,7 @@ fn lines(
 }
 
 // A whole script, with an empty sheet in hand.
-pub fn script(text: &[u8]) {
+pub(crate) fn script(text: &[u8]) {
     let mut sheet = room_for_bytes();
     let mut reply = room_for_bytes();
     let mut frame = [0u8; 300];

@@ -1,12 +1,12 @@
 // What a line of the script says.
-use crate::decimal;
-use crate::decimal::Number;
-use text_lines::hex;
-use text_lines::in_hand;
-use text_lines::part;
-use text_lines::part::starts_with;
+use text_read::in_hand;
+use text_read::number;
+use text_read::number::Number;
+use text_read::part;
+use text_read::part::starts_with;
+use text_read::rows;
 
-pub enum Line {
+pub(crate) enum Line {
     Bad,
     Sheet,
     Sums(usize),
@@ -15,50 +15,60 @@ pub enum Line {
     Reply,
 }
 
-// Where the bytes begin in `go HH ..` and in `< HH ..`.
-pub const GO: usize = 3;
+// Where the row begins in `go HH ..` and in `< HH ..`; it may be empty.
+pub(crate) const GO: usize = 2;
 
-pub const REPLY: usize = 2;
+pub(crate) const REPLY: usize = 1;
 
-// A line that says this, if a row of bytes stands from `from` on.
-fn with_row(said: Line, text: &[u8], from: usize) -> Line {
-    if hex::is_row(part::rest(text, from)) {
-        return said;
+// `sheet HH HH ..`
+fn of_sheet(text: &[u8]) -> Line {
+    if rows::is_bytes(part::rest(text, in_hand::ROW)) {
+        return Line::Sheet;
     }
     Line::Bad
 }
 
 // `sums N`
 fn sums_line(text: &[u8]) -> Line {
-    let Number::Value(n) = decimal::read(part::rest(text, 5), 64) else {
+    let read = number::decimal(part::rest(text, 5), 64);
+    let Number::Value(n) = read else {
         return Line::Bad;
     };
-    Line::Sums(n)
+    Line::Sums(n as usize)
 }
 
 // `room N`
 fn room_line(text: &[u8]) -> Line {
-    let Number::Value(n) = decimal::read(part::rest(text, 5), 300) else {
+    let read = number::decimal(part::rest(text, 5), 300);
+    let Number::Value(n) = read else {
         return Line::Bad;
     };
-    Line::Room(n)
+    Line::Room(n as usize)
 }
 
-// `< HH HH ..`, or `<` alone for an empty reply.
-fn reply_line(text: &[u8]) -> Line {
-    if octets::same_bytes(text, b"<") {
-        return Line::Reply;
-    }
-    if starts_with(text, b"< ") {
-        return with_row(Line::Reply, text, REPLY);
+// `go`, `go HH HH ..`
+fn go_line(text: &[u8]) -> Line {
+    if rows::is_row(part::rest(text, GO)) {
+        return Line::Go;
     }
     Line::Bad
 }
 
-// A line without its end; a reply is one only where a play has begun.
-pub fn parse(text: &[u8], begun: bool) -> Line {
+// `<`, `< HH HH ..`: only where a play has begun.
+fn reply_line(text: &[u8], begun: bool) -> Line {
+    if !begun {
+        return Line::Bad;
+    }
+    if rows::is_row(part::rest(text, REPLY)) {
+        return Line::Reply;
+    }
+    Line::Bad
+}
+
+// A line without its end.
+pub(crate) fn parse(text: &[u8], begun: bool) -> Line {
     if in_hand::begins(text) {
-        return with_row(Line::Sheet, text, in_hand::BYTES);
+        return of_sheet(text);
     }
     if starts_with(text, b"sums ") {
         return sums_line(text);
@@ -66,14 +76,11 @@ pub fn parse(text: &[u8], begun: bool) -> Line {
     if starts_with(text, b"room ") {
         return room_line(text);
     }
-    if octets::same_bytes(text, b"go") {
-        return Line::Go;
+    if starts_with(text, b"go") {
+        return go_line(text);
     }
-    if starts_with(text, b"go ") {
-        return with_row(Line::Go, text, GO);
-    }
-    if begun {
-        return reply_line(text);
+    if starts_with(text, b"<") {
+        return reply_line(text, begun);
     }
     Line::Bad
 }

@@ -2,8 +2,8 @@
 use rules::Next;
 use rules::Report;
 use text_lines::output;
-use text_lines::part;
 use text_lines::told;
+use text_read::part;
 
 // `> HH HH ..`: the line has room for a frame buffer of 300 bytes.
 fn frame_line(frame: &[u8]) {
@@ -32,7 +32,7 @@ fn sums_line(sums: &[u16]) {
 }
 
 // What the call answered, over the buffers that were lent to it.
-pub fn call(next: Next, report: Report, frame: &[u8], sums: &[u16]) {
+pub(crate) fn call(next: Next, report: Report, frame: &[u8], sums: &[u16]) {
     match next {
         Next::Refused(refusal) => {
             told::refused(refusal);

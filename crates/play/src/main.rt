@@ -3,7 +3,7 @@
 mod input;
 
 use input::Input;
-use text_lines::part;
+use text_read::part;
 use text_play::fresh::play_fresh;
 
 fn main() {

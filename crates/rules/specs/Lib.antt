@@ -11,6 +11,7 @@ pub mod Player
 pub mod Numbers
 pub mod Run
 pub mod Text
+pub mod Lines
 pub mod Compute
 pub mod Rows
 pub mod Starred

@@ -1,7 +1,4 @@
-// Text lines: what the programs over scripts share, to read a line and to write one.
-pub mod hex;
-pub mod in_hand;
+// Text lines: what the programs over scripts share to write one, and room for a script.
 pub mod lines;
 pub mod output;
-pub mod part;
 pub mod told;

@@ -1,6 +1,7 @@
 // What `?` writes: the phase, the options as stored, and the pages that are not blank.
-use crate::chip::State;
+use crate::session::Session;
 use rules::Block;
+use rules::Chip;
 use rules::Flash;
 use rules::Options;
 use rules::Phase;
@@ -17,11 +18,12 @@ fn phase_line(p: Phase) -> bool {
 }
 
 // With the power off the chip has no phase.
-fn power_line(chip: State) -> bool {
-    if !chip.on {
+fn power_line(s: Session) -> bool {
+    if !s.on {
         return io::write_all(1, b"phase Off\n");
     }
-    let c = chip.core;
+    let d = s.device;
+    let c = d.core;
     let p = c.phase;
     phase_line(p)
 }
@@ -64,20 +66,19 @@ fn page_line(f: Flash, k: usize, page: &[u8]) {
 }
 
 // The pages of one flash that are not blank.
-fn pages<'a>(f: Flash, code: &'a [u8], data: &'a [u8]) {
-    let chip = chip_finder::small();
+fn pages<'a>(chip: Chip, f: Flash, code: &'a [u8], data: &'a [u8]) {
     for k in 0..chip_finder::page_count(chip, f) {
         let page = chip_finder::page_part(chip, code, data, f, k);
         page_line(f, k, page);
     }
 }
 
-pub fn all<'a>(chip: State, code: &'a [u8], data: &'a [u8]) -> State {
-    power_line(chip);
-    let c = chip.core;
+pub fn all<'a>(s: Session, code: &'a [u8], data: &'a [u8]) {
+    power_line(s);
+    let d = s.device;
+    let c = d.core;
     let o = c.options;
     options_line(o);
-    pages(Flash::Code, code, data);
-    pages(Flash::Data, code, data);
-    chip
+    pages(d.chip, Flash::Code, code, data);
+    pages(d.chip, Flash::Data, code, data);
 }

@@ -7,7 +7,8 @@ use Rattle.frames.proofs.run.lines.Statement.{statement}
 use Rattle.frames.proofs.run.lines.Tie as tie
 
 abbrev Inv-loop : tie.InvT-loop
-Inv-loop text sheet₀ reply₀ frame₀ sums₀ h₀ at₀ number₀ sheet reply frame sums h at number = (length text < 18446744073709551616) × (number ≤ at) × (at ≤ length text) × (length sheet ≡ length sheet₀) × (length reply ≡ length reply₀) × (length frame ≡ length frame₀) × (length sums ≡ length sums₀)
+Inv-loop text sheet₀ reply₀ frame₀ sums₀ h₀ at₀ number₀ sheet reply frame sums h at number =
+    (length text < 18446744073709551616) × (number ≤ at) × (at ≤ length text) × (length sheet ≡ length sheet₀) × (length reply ≡ length reply₀) × (length frame ≡ length frame₀) × (length sums ≡ length sums₀)
 
 abbrev μ-loop : tie.MeasureT-loop
 μ-loop text sheet₀ reply₀ frame₀ sums₀ h₀ at₀ number₀ sheet reply frame sums h at number = length text - at
@@ -22,7 +23,6 @@ lines-spec =
     (λ c. search needs)
     (λ c. search needs)
     (λ c κs. search needs)
-    (λ c. search needs)
     (λ c. search needs)
     (λ c. search needs)
     (λ c. search needs)

@@ -5,10 +5,10 @@ use Rattle.text_script.proofs.show.pages.Statement.{statement}
 use Rattle.text_script.proofs.show.pages.Tie as tie
 
 abbrev Inv-loop : tie.InvT-loop
-Inv-loop f code «data» chip k₀ k-end k = k ≤ k-end
+Inv-loop chip f code «data» k₀ k-end k = k ≤ k-end
 
 abbrev μ-loop : tie.MeasureT-loop
-μ-loop f code «data» chip k₀ k-end k = k-end - k
+μ-loop chip f code «data» k₀ k-end k = k-end - k
 
 pub pages-spec : {M : Type 1} → statement M
 pages-spec =
@@ -16,7 +16,6 @@ pages-spec =
     (tie.spec
     Inv-loop
     μ-loop
-    (λ c κs. search needs)
     (λ c κs. search needs)
     (λ c. search needs)
     (λ c κs. search needs)

@@ -1,0 +1,5 @@
+pub mod Parts
+pub mod Lines
+pub mod Units
+pub mod Numerals
+pub mod Stores

@@ -1,0 +1,103 @@
+// `> HH HH ..`: written out again, sent byte by byte, and the line of the answers if there are any.
+use crate::session::Session;
+use rules::Call;
+use standin::call::Device;
+use standin::call::byte_call;
+use text_lines::output;
+use text_read::part;
+use text_read::rows;
+
+// The chip while bytes are sent, and whether it has answered any of them.
+struct Sent {
+    device: Device,
+    answered: bool,
+}
+
+// Writes a row out again, its digits in upper case, in pieces of 256 bytes.
+fn echo(row: &[u8]) {
+    let mut line = [b'>'; 769];
+    let mut at: usize = 1;
+    for k in 0..rows::row_count(row) {
+        if at > 766 {
+            io::write_all(1, part::between(&line, 0, at));
+            at = 0;
+        }
+        at = output::byte(&mut line, at, rows::row_byte(row, k));
+    }
+    io::write_all(1, part::between(&line, 0, at));
+    io::write_all(1, b"\n");
+}
+
+fn size_of(call: Call) -> usize {
+    match call {
+        Call::Answer(n) => n,
+        Call::Refused(_) => 0,
+    }
+}
+
+// Writes the first `size` bytes of a reply: they begin the answer line, or go on with it.
+fn answer(reply: &[u8], size: usize, answered: bool) {
+    let mut line = [b'<'; 64];
+    let mut from: usize = 1;
+    if answered {
+        from = 0;
+    }
+    let end = output::row(&mut line, from, part::between(reply, 0, size));
+    io::write_all(1, part::between(&line, 0, end));
+}
+
+// One byte to the chip; what it answers is written.
+fn send_byte(s: Sent, byte: u8, code: &mut [u8], data: &mut [u8]) -> Sent {
+    let mut reply = [0u8; 16];
+    let d = s.device;
+    let told = byte_call(d, byte, code, data, &mut reply);
+    let call = told.call;
+    let size = size_of(call);
+    let after = told.device;
+    if size == 0 {
+        return Sent {
+            device: after,
+            answered: s.answered,
+        };
+    }
+    answer(&reply, size, s.answered);
+    Sent {
+        device: after,
+        answered: true,
+    }
+}
+
+// The bytes of a row, one after the other.
+fn send_row(d: Device, row: &[u8], code: &mut [u8], data: &mut [u8]) -> Sent {
+    let mut s = Sent {
+        device: d,
+        answered: false,
+    };
+    let count = rows::row_count(row);
+    for k in 0..count {
+        s = send_byte(s, rows::row_byte(row, k), code, data);
+    }
+    s
+}
+
+fn end_line(answered: bool) {
+    if answered {
+        io::write_all(1, b"\n");
+    }
+}
+
+// With the power off the line is only written out again.
+pub fn line(s: Session, row: &[u8], code: &mut [u8], data: &mut [u8]) -> Session {
+    echo(row);
+    if !s.on {
+        return s;
+    }
+    let d = s.device;
+    let sent = send_row(d, row, code, data);
+    end_line(sent.answered);
+    let after = sent.device;
+    Session {
+        on: true,
+        device: after,
+    }
+}

@@ -1,9 +1,10 @@
 //! The `answers` program: the stand-in by itself, driven by script lines.
 
-use crate::chip::Area;
+use crate::chip::{Area, Model};
 use crate::joined;
 use crate::lines::{
-    LineRunner, SheetInHand, byte_line, flash_lines, hex_bytes, hex_number, some_hex_bytes,
+    LineRunner, SheetInHand, byte_line, chip_model, flash_lines, hex_bytes, hex_number,
+    some_hex_bytes,
 };
 use crate::options::Options;
 use crate::player::Refusal;
@@ -17,7 +18,7 @@ pub struct Answers {
 
 impl Answers {
     pub fn new() -> Answers {
-        Answers { chip: StandIn::fresh(), sheet: SheetInHand::default() }
+        Answers { chip: StandIn::fresh(Model::SMALL), sheet: SheetInHand::default() }
     }
 
     pub fn chip(&self) -> &StandIn {
@@ -39,7 +40,9 @@ impl Answers {
         Some(())
     }
 
+    /// There is no flash to store in where the chip is none of the two.
     fn store(&mut self, area: Area, words: &[&[u8]]) -> Option<()> {
+        self.chip.model().check().ok()?;
         let (address, bytes) = words.split_first()?;
         let address = hex_number(address, 5)?;
         let bytes = some_hex_bytes(bytes)?;
@@ -58,19 +61,26 @@ impl Answers {
         text
     }
 
-    /// The sheet's verdict comes first, then whether the chip is free.
     fn play(&mut self) -> String {
-        let sheet = self.sheet.bytes();
-        if let Err(refusal) = Sheet::read(sheet) {
-            return format!("refused {}\n", Refusal::from(refusal));
+        if let Err(refusal) = self.judge_sheet() {
+            return format!("refused {refusal}\n");
         }
         if !self.chip.waits_for_command() {
             return String::from("refused busy\n");
         }
-        match joined::play(sheet, &mut self.chip, &mut [0; MOST_STEPS]) {
+        match joined::play(self.sheet.bytes(), &mut self.chip, &mut [0; MOST_STEPS]) {
             Ok(played) => played.to_string(),
             Err(refusal) => format!("refused {refusal}\n"),
         }
+    }
+
+    /// The chip's counts and the sheet's verdict come first, then whether the
+    /// chip is free.
+    fn judge_sheet(&self) -> Result<(), Refusal> {
+        let model = self.chip.model();
+        model.check()?;
+        Sheet::read(self.sheet.bytes(), model)?;
+        Ok(())
     }
 }
 
@@ -82,13 +92,16 @@ impl LineRunner for Answers {
             return Some(());
         }
         match (*lead, rest) {
-            (b"fresh", []) => self.chip = StandIn::fresh(),
+            (b"fresh", []) => self.chip = StandIn::fresh(Model::SMALL),
+            (b"chip", _) => self.chip = StandIn::fresh(chip_model(rest)?),
             (b"options", _) => self.set_options(rest)?,
             (b"code", _) => self.store(Area::Code, rest)?,
             (b"data", _) => self.store(Area::Data, rest)?,
             (b"!", []) => {
-                self.chip.power_on();
                 out.push_str("!\n");
+                if self.chip.power_on().is_err() {
+                    out.push_str("refused D0\n");
+                }
             }
             (b">", [_, ..]) => {
                 let bytes = hex_bytes(rest)?;

@@ -1,7 +1,10 @@
 //! The `frames` program: the player by itself, with replies from the input.
 
+use crate::chip::Model;
 use crate::frames;
-use crate::lines::{LineRunner, SheetInHand, byte_line, decimal_number, hex_bytes, some_hex_bytes};
+use crate::lines::{
+    LineRunner, SheetInHand, byte_line, chip_model, decimal_number, hex_bytes, some_hex_bytes,
+};
 use crate::player::{Player, Turn};
 use crate::sheet::MOST_STEPS;
 
@@ -9,6 +12,8 @@ use crate::sheet::MOST_STEPS;
 pub const MOST_ROOM: usize = 300;
 
 pub struct Calls {
+    /// The chip that later calls play to.
+    model: Model,
     sheet: SheetInHand,
     room: usize,
     sums: Vec<u16>,
@@ -19,11 +24,16 @@ pub struct Calls {
 impl Calls {
     pub fn new() -> Calls {
         Calls {
+            model: Model::SMALL,
             sheet: SheetInHand::default(),
             room: frames::LONGEST,
             sums: vec![0; MOST_STEPS],
             player: None,
         }
+    }
+
+    pub fn model(&self) -> Model {
+        self.model
     }
 
     pub fn player(&self) -> Option<&Player> {
@@ -38,7 +48,8 @@ impl Calls {
     /// One call of the player and the lines that tell of it.
     fn call(&mut self, reply: &[u8]) -> Option<String> {
         let player = self.player.as_mut()?;
-        let text = match player.call(self.sheet.bytes(), reply, self.room, &mut self.sums) {
+        let sheet = self.sheet.bytes();
+        let text = match player.call(self.model, sheet, reply, self.room, &mut self.sums) {
             Ok(Turn::Frame(frame)) => byte_line(">", &frame),
             Ok(Turn::End(report)) => format!("{report}\n{}", self.sums_line()),
             Err(refusal) => format!("refused {refusal}\n"),
@@ -60,6 +71,7 @@ impl LineRunner for Calls {
             return Some(());
         }
         match (*lead, rest) {
+            (b"chip", _) => self.model = chip_model(rest)?,
             (b"sums", [number]) => self.sums = vec![0; decimal_number(number, MOST_STEPS)?],
             (b"room", [number]) => self.room = decimal_number(number, MOST_ROOM)?,
             (b"go", _) => {

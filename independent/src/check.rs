@@ -1,6 +1,6 @@
 //! The plain meaning held against player and stand-in.
 
-use crate::generator::material::{Plan, Preparation, Size};
+use crate::generator::material::{Plan, Preparation, Size, random_model};
 use crate::generator::random::Random;
 use crate::joined::{bring_up, play};
 use crate::meaning::{Outcome, meaning};
@@ -21,12 +21,13 @@ pub fn check(seed: u64, count: u64) -> Result<(), String> {
 
 fn check_case(random: &mut Random) -> Result<(), String> {
     let mut chip = prepared_chip(random);
-    bring_up(&mut chip);
+    bring_up(&mut chip).map_err(|refusal| format!("refused {refusal:?}"))?;
     must(chip.waits_for_command(), "the chip does not wait for a command")?;
 
     let size = random_size(random);
     let bytes = Plan::random(random, &chip.flash, &chip.options, size).bytes();
-    let sheet = Sheet::read(&bytes).map_err(|refusal| format!("refused {refusal:?}"))?;
+    let sheet =
+        Sheet::read(&bytes, chip.model()).map_err(|refusal| format!("refused {refusal:?}"))?;
 
     let entries = random.between(sheet.steps.len(), MOST_STEPS);
     let lent: Vec<u16> = (0..entries).map(|_| random.word()).collect();
@@ -56,10 +57,11 @@ fn check_case(random: &mut Random) -> Result<(), String> {
 }
 
 fn prepared_chip(random: &mut Random) -> StandIn {
+    let model = random_model(random);
     if random.chance(20) {
-        return StandIn::fresh();
+        return StandIn::fresh(model);
     }
-    let (flash, mut options) = Preparation::random(random).contents();
+    let (flash, mut options) = Preparation::random(random, model).contents();
     options.sf2 |= IFPR;
     StandIn::holding(flash, options)
 }

@@ -38,29 +38,74 @@ impl Area {
         }
     }
 
-    pub const fn length(self) -> usize {
-        match self {
-            Area::Code => 32_768,
-            Area::Data => 2_048,
-        }
-    }
-
     pub const fn block_length(self) -> usize {
         match self {
             Area::Code => 2_048,
             Area::Data => 256,
         }
     }
+}
 
-    /// The place of an address in this flash, counted from its first byte.
-    pub fn offset_of(self, address: u32) -> Option<usize> {
-        let offset = address.checked_sub(self.first_address())? as usize;
-        (offset < self.length()).then_some(offset)
+/// What a chip is known by: its block counts.
+#[derive(Clone, Copy, Debug, PartialEq, Eq)]
+pub struct Model {
+    pub code_blocks: usize,
+    pub data_blocks: usize,
+}
+
+/// The refusal of block counts that are those of no chip.
+#[derive(Clone, Copy, Debug, PartialEq, Eq)]
+pub struct D0;
+
+impl Model {
+    pub const SMALL: Model = Model { code_blocks: 16, data_blocks: 8 };
+    pub const LARGE: Model = Model { code_blocks: 64, data_blocks: 32 };
+
+    /// There are two chips, and no others.
+    pub fn check(self) -> Result<(), D0> {
+        if self == Model::SMALL || self == Model::LARGE { Ok(()) } else { Err(D0) }
+    }
+
+    pub fn blocks(self, area: Area) -> usize {
+        match area {
+            Area::Code => self.code_blocks,
+            Area::Data => self.data_blocks,
+        }
+    }
+
+    pub fn length(self, area: Area) -> usize {
+        self.blocks(area) * area.block_length()
+    }
+
+    pub fn last_code_block(self) -> usize {
+        self.code_blocks - 1
+    }
+
+    /// The place of an address in a flash, counted from its first byte.
+    pub fn offset_in(self, area: Area, address: u32) -> Option<usize> {
+        let offset = address.checked_sub(area.first_address())? as usize;
+        (offset < self.length(area)).then_some(offset)
     }
 
     /// The flash that holds an address, and the address's place in it.
-    pub fn holding(address: u32) -> Option<(Area, usize)> {
-        Area::BOTH.into_iter().find_map(|area| Some((area, area.offset_of(address)?)))
+    fn holding(self, address: u32) -> Option<(Area, usize)> {
+        Area::BOTH.into_iter().find_map(|area| Some((area, self.offset_in(area, address)?)))
+    }
+
+    /// The blocks named by an address pair, if the pair is valid.
+    pub fn pair(self, sad: u32, ead: u32) -> Option<Span> {
+        let (area, start) = self.holding(sad)?;
+        let last = self.offset_in(area, ead)?;
+        let block = area.block_length();
+        let valid = start <= last && start % block == 0 && (last + 1) % block == 0;
+        valid.then(|| Span { area, start, length: last + 1 - start })
+    }
+
+    /// The block whose first byte an erase address names.
+    pub fn block(self, sad: u32) -> Option<Span> {
+        let (area, start) = self.holding(sad)?;
+        let length = area.block_length();
+        (start % length == 0).then_some(Span { area, start, length })
     }
 }
 
@@ -73,26 +118,6 @@ pub struct Span {
 }
 
 impl Span {
-    /// The blocks named by an address pair, if the pair is valid.
-    pub fn of_pair(sad: u32, ead: u32) -> Option<Span> {
-        let (area, start) = Area::holding(sad)?;
-        let last = area.offset_of(ead)?;
-        let block = area.block_length();
-        let valid = start <= last && start % block == 0 && (last + 1) % block == 0;
-        valid.then(|| Span { area, start, length: last + 1 - start })
-    }
-
-    /// The block whose first byte an erase address names.
-    pub fn of_block(sad: u32) -> Option<Span> {
-        let (area, start) = Area::holding(sad)?;
-        let length = area.block_length();
-        (start % length == 0).then_some(Span { area, start, length })
-    }
-
-    pub fn whole(area: Area) -> Span {
-        Span { area, start: 0, length: area.length() }
-    }
-
     pub fn blocks(self) -> usize {
         self.length / self.area.block_length()
     }
@@ -126,16 +151,22 @@ impl Span {
     }
 }
 
-/// The contents of both flashes.
+/// A chip's block counts and the contents of both its flashes.
 #[derive(Clone, PartialEq, Eq)]
 pub struct Flash {
+    model: Model,
     code: Vec<u8>,
     data: Vec<u8>,
 }
 
 impl Flash {
-    pub fn blank() -> Flash {
-        Flash { code: vec![BLANK; Area::Code.length()], data: vec![BLANK; Area::Data.length()] }
+    pub fn blank(model: Model) -> Flash {
+        let blank = |area| vec![BLANK; model.length(area)];
+        Flash { model, code: blank(Area::Code), data: blank(Area::Data) }
+    }
+
+    pub fn model(&self) -> Model {
+        self.model
     }
 
     pub fn area(&self, area: Area) -> &[u8] {
@@ -171,7 +202,7 @@ impl Flash {
     /// Stores bytes from an address on; None, and nothing stored, if any of
     /// them would lie outside that flash.
     pub fn store(&mut self, area: Area, address: u32, bytes: &[u8]) -> Option<()> {
-        let start = area.offset_of(address)?;
+        let start = self.model.offset_in(area, address)?;
         self.area_mut(area).get_mut(start..start + bytes.len())?.copy_from_slice(bytes);
         Some(())
     }

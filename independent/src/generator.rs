@@ -1,12 +1,13 @@
 //! Seeded trial material. The same seed gives the same text on every machine.
 
+mod counts;
 pub mod material;
 mod plays;
 pub mod random;
 mod scripts;
 mod sheets;
 
-use crate::lines::LineRunner;
+use crate::lines::{LineRunner, MOST_INPUT};
 
 #[derive(Clone, Copy, Debug, PartialEq, Eq)]
 pub enum Subject {
@@ -48,6 +49,12 @@ struct Tape<R> {
 impl<R: LineRunner> Tape<R> {
     fn new(runner: R) -> Tape<R> {
         Tape { text: String::new(), runner }
+    }
+
+    /// Whether a long line may still come: the programs read no more than
+    /// `MOST_INPUT` bytes, and the cases to come need some of them.
+    fn has_room(&self) -> bool {
+        self.text.len() < MOST_INPUT / 5 * 2
     }
 
     /// Adds a line, given with or without its LF, and gives what the program

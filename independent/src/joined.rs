@@ -2,6 +2,7 @@
 
 use std::fmt::{self, Display};
 
+use crate::chip::D0;
 use crate::frames;
 use crate::player::{Player, Refusal, Report, Status, Turn};
 use crate::sheet::{Kind, Sheet};
@@ -43,8 +44,9 @@ impl Display for Played {
 /// The chip should be waiting for a command.
 pub fn play(bytes: &[u8], chip: &mut StandIn, sums: &mut [u16]) -> Result<Played, Refusal> {
     let mut player = Player::new();
-    let mut turn = player.call(bytes, &[], frames::LONGEST, sums)?;
-    let sheet = Sheet::read(bytes)?;
+    let model = chip.model();
+    let mut turn = player.call(model, bytes, &[], frames::LONGEST, sums)?;
+    let sheet = Sheet::read(bytes, model)?;
     let mut steps: Vec<StepLine> = Vec::new();
     let mut frames_of_step = 0;
     loop {
@@ -54,7 +56,7 @@ pub fn play(bytes: &[u8], chip: &mut StandIn, sums: &mut [u16]) -> Result<Played
         };
         frames_of_step += 1;
         let reply = chip.receive_all(&frame);
-        turn = player.call(bytes, &reply, frames::LONGEST, sums)?;
+        turn = player.call(model, bytes, &reply, frames::LONGEST, sums)?;
         let number = steps.len() + 1;
         let (status, sum) = if player.steps_finished() == number {
             (Status::DONE, sums[number - 1])
@@ -70,11 +72,12 @@ pub fn play(bytes: &[u8], chip: &mut StandIn, sums: &mut [u16]) -> Result<Played
 }
 
 /// Brings a chip with IFPR 1 from power-on to phase Command.
-pub fn bring_up(chip: &mut StandIn) {
-    chip.power_on();
+pub fn bring_up(chip: &mut StandIn) -> Result<(), D0> {
+    chip.power_on()?;
     for bytes in bring_up_bytes(chip.flash.connection_id()) {
         chip.receive_all(&bytes);
     }
+    Ok(())
 }
 
 /// The mode byte, Baud Rate Set and the ID. A chip that asks for no ID answers

@@ -1,6 +1,6 @@
 //! Text input in lines: split, parsed, and the bad line named.
 
-use crate::chip::{Area, PAGE};
+use crate::chip::{Area, Model, PAGE};
 
 /// The most bytes of an input that are run.
 pub const MOST_INPUT: usize = 1_048_576;
@@ -62,6 +62,20 @@ pub fn decimal_number(word: &[u8], most: usize) -> Option<usize> {
     let text = std::str::from_utf8(word).ok()?;
     let number: usize = text.parse().ok()?;
     (number <= most && number.to_string() == text).then_some(number)
+}
+
+/// The words of a `chip` line behind the first: a name or two block counts.
+pub fn chip_model(words: &[&[u8]]) -> Option<Model> {
+    const MOST_BLOCKS: usize = 255;
+    match words {
+        [b"small"] => Some(Model::SMALL),
+        [b"large"] => Some(Model::LARGE),
+        [code, data] => Some(Model {
+            code_blocks: decimal_number(code, MOST_BLOCKS)?,
+            data_blocks: decimal_number(data, MOST_BLOCKS)?,
+        }),
+        _ => None,
+    }
 }
 
 /// A line of a leading word and bytes.

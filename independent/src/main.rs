@@ -21,8 +21,11 @@ use std::process::ExitCode;
 
 use answers::Answers;
 use calls::Calls;
+use chip::Model;
 use generator::Subject;
+use joined::Played;
 use lines::{MOST_INPUT, run_lines};
+use player::Refusal;
 use sheet::{MOST_BYTES, MOST_STEPS};
 use standin::StandIn;
 
@@ -90,12 +93,16 @@ fn read_input(most: usize) -> io::Result<Vec<u8>> {
     Ok(input)
 }
 
-/// The `play` program: a sheet played to a fresh chip.
+/// The `play` program: a sheet played to a fresh small chip.
 fn play(sheet: &[u8]) -> String {
-    let mut chip = StandIn::fresh();
-    joined::bring_up(&mut chip);
-    match joined::play(sheet, &mut chip, &mut [0; MOST_STEPS]) {
+    match play_to_fresh(sheet) {
         Ok(played) => played.to_string(),
         Err(refusal) => format!("refused {refusal}\n"),
     }
+}
+
+fn play_to_fresh(sheet: &[u8]) -> Result<Played, Refusal> {
+    let mut chip = StandIn::fresh(Model::SMALL);
+    joined::bring_up(&mut chip)?;
+    joined::play(sheet, &mut chip, &mut [0; MOST_STEPS])
 }

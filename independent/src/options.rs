@@ -1,6 +1,6 @@
 //! The option bits: two flag bytes and two window words.
 
-use crate::chip::{Area, Span};
+use crate::chip::Span;
 
 /// SF1: protection of boot cluster 0.
 pub const BTPR: u8 = 1 << 1;
@@ -100,11 +100,12 @@ impl Options {
         [(self.sf1 & SF1_BITS) | BTFLG, self.sf2 & SF2_BITS, 0x00]
     }
 
-    /// What Window Get shows: SWS and SWE, low byte first.
-    pub fn shown_window(&self) -> [u8; 4] {
+    /// What Window Get shows: SWS and SWE, low byte first. An empty window is
+    /// shown as all of code flash.
+    pub fn shown_window(&self, last_code_block: usize) -> [u8; 4] {
         let (mut start, mut end) = (self.sws & WINDOW_BLOCK, self.swe & WINDOW_BLOCK);
         if start == end {
-            (start, end) = (0, Span::whole(Area::Code).blocks() as u16 - 1);
+            (start, end) = (0, last_code_block as u16);
         }
         let [sws_low, sws_high] = (start | (self.sws & FSPR)).to_le_bytes();
         let [swe_low, swe_high] = (end | (self.swe & FSWC)).to_le_bytes();

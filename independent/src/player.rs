@@ -2,13 +2,14 @@
 
 use std::fmt;
 
-use crate::chip::PAGE;
+use crate::chip::{D0, Model, PAGE};
 use crate::frames::{self, code};
 use crate::sheet::{Jn, Kind, Sheet, Step};
 use crate::status;
 
 #[derive(Clone, Copy, Debug, PartialEq, Eq)]
 pub enum Refusal {
+    D0,
     J(u8),
     P1,
     P2,
@@ -17,10 +18,17 @@ pub enum Refusal {
 impl fmt::Display for Refusal {
     fn fmt(&self, out: &mut fmt::Formatter) -> fmt::Result {
         match self {
+            Refusal::D0 => out.write_str("D0"),
             Refusal::J(number) => write!(out, "J{number}"),
             Refusal::P1 => out.write_str("P1"),
             Refusal::P2 => out.write_str("P2"),
         }
+    }
+}
+
+impl From<D0> for Refusal {
+    fn from(_: D0) -> Refusal {
+        Refusal::D0
     }
 }
 
@@ -142,17 +150,19 @@ impl Player {
         }
     }
 
-    /// One call: the sheet, the reply to the last frame, the length of the
-    /// frame buffer lent and the list of sums lent. The first call of a play
-    /// reads no reply. A refused call changes nothing.
+    /// One call: the chip played to, the sheet, the reply to the last frame,
+    /// the length of the frame buffer lent and the list of sums lent. The first
+    /// call of a play reads no reply. A refused call changes nothing.
     pub fn call(
         &mut self,
+        model: Model,
         sheet: &[u8],
         reply: &[u8],
         room: usize,
         sums: &mut [u16],
     ) -> Result<Turn, Refusal> {
-        let sheet = Sheet::read(sheet)?;
+        model.check()?;
+        let sheet = Sheet::read(sheet, model)?;
         if sums.len() < sheet.steps.len() {
             return Err(Refusal::J(10));
         }

@@ -1,6 +1,6 @@
 //! The job sheet: read and judged.
 
-use crate::chip::Span;
+use crate::chip::{Model, Span};
 
 /// The most steps of a sheet.
 pub const MOST_STEPS: usize = 64;
@@ -68,8 +68,9 @@ pub struct Sheet<'a> {
 pub struct Jn(pub u8);
 
 impl<'a> Sheet<'a> {
-    /// Reads a sheet, or names the first refusal J1 to J9 that applies.
-    pub fn read(bytes: &'a [u8]) -> Result<Sheet<'a>, Jn> {
+    /// Reads a sheet for a chip, or names the first refusal J1 to J9 that
+    /// applies.
+    pub fn read(bytes: &'a [u8], model: Model) -> Result<Sheet<'a>, Jn> {
         if bytes.len() < COUNT_LENGTH || bytes.len() > MOST_BYTES {
             return Err(Jn(1));
         }
@@ -82,7 +83,7 @@ impl<'a> Sheet<'a> {
         let mut steps = Vec::with_capacity(count);
         let mut body_start = table_end;
         for entry in table.chunks_exact(ENTRY_LENGTH) {
-            let step = read_entry(entry, bytes, body_start)?;
+            let step = read_entry(entry, bytes, body_start, model)?;
             body_start += step.body.len();
             steps.push(step);
         }
@@ -94,7 +95,12 @@ impl<'a> Sheet<'a> {
 }
 
 /// Reads an entry whose body is due at `body_start`.
-fn read_entry<'a>(entry: &[u8], bytes: &'a [u8], body_start: usize) -> Result<Step<'a>, Jn> {
+fn read_entry<'a>(
+    entry: &[u8],
+    bytes: &'a [u8],
+    body_start: usize,
+    model: Model,
+) -> Result<Step<'a>, Jn> {
     let number = |at: usize, length: usize| {
         entry[at..at + length]
             .iter()
@@ -105,7 +111,7 @@ fn read_entry<'a>(entry: &[u8], bytes: &'a [u8], body_start: usize) -> Result<St
     if entry[7] != 0 {
         return Err(Jn(5));
     }
-    let span = Span::of_pair(number(1, 3), number(4, 3)).ok_or(Jn(6))?;
+    let span = model.pair(number(1, 3), number(4, 3)).ok_or(Jn(6))?;
     if number(8, 4) as usize != body_start {
         return Err(Jn(7));
     }

@@ -1,6 +1,6 @@
 //! The stand-in: the chip's side of the line, one received byte a call.
 
-use crate::chip::{BLANK, Flash, Span, all_blank, checksum};
+use crate::chip::{BLANK, D0, Flash, Model, Span, all_blank, checksum};
 use crate::frames::{self, COMMAND_START, DATA_START, END, Received, Receiver, code};
 use crate::options::{BTPR, IDEN, IFPR, Options, SEPR};
 use crate::status;
@@ -96,13 +96,17 @@ pub struct StandIn {
 
 impl StandIn {
     /// A fresh chip, power off.
-    pub fn fresh() -> StandIn {
-        StandIn::holding(Flash::blank(), Options::FRESH)
+    pub fn fresh(model: Model) -> StandIn {
+        StandIn::holding(Flash::blank(model), Options::FRESH)
     }
 
     /// A chip with these contents, power off.
     pub fn holding(flash: Flash, options: Options) -> StandIn {
         StandIn { flash, options, phase: Phase::Off, receiver: Receiver::default(), transfer: None }
+    }
+
+    pub fn model(&self) -> Model {
+        self.flash.model()
     }
 
     pub fn phase(&self) -> Phase {
@@ -127,9 +131,12 @@ impl StandIn {
         })
     }
 
-    pub fn power_on(&mut self) {
+    /// A chip of other counts than the two there are stays as it is.
+    pub fn power_on(&mut self) -> Result<(), D0> {
+        self.model().check()?;
         self.start_afresh();
         self.phase = if self.options.sf2_has(IFPR) { Phase::Mode } else { Phase::Silent };
+        Ok(())
     }
 
     pub fn power_off(&mut self) {
@@ -217,14 +224,16 @@ impl StandIn {
             code::PROGRAM => self.begin(information, Work::Write { before: status::ACK }),
             code::VERIFY => self.begin(information, Work::Verify { differs: false }),
             code::CHECKSUM => {
-                let sum = checksum(self.flash.part(pair_in(information)?));
+                let sum = checksum(self.flash.part(self.pair_in(information)?));
                 Ok(ack_and(&sum.to_le_bytes()))
             }
             code::SECURITY_SET => Ok(self.set_security(information[0], information[1])),
             code::SECURITY_GET => Ok(ack_and(&self.options.shown_flags())),
             code::RELEASE => self.release(),
             code::WINDOW_SET => self.set_window(information),
-            code::WINDOW_GET => Ok(ack_and(&self.options.shown_window())),
+            code::WINDOW_GET => {
+                Ok(ack_and(&self.options.shown_window(self.model().last_code_block())))
+            }
             code::RESET => Ok(ack()),
             _ => Err(status::COMMAND_NUMBER),
         }
@@ -247,7 +256,7 @@ impl StandIn {
     }
 
     fn erase(&mut self, information: &[u8]) -> Result<Vec<u8>, u8> {
-        let block = Span::of_block(address_in(information, 0)).ok_or(status::PARAMETER)?;
+        let block = self.model().block(address_in(information, 0)).ok_or(status::PARAMETER)?;
         if self.options.erase_protects(block) {
             return Err(status::PROTECTED);
         }
@@ -285,8 +294,13 @@ impl StandIn {
         Ok(ack())
     }
 
+    fn pair_in(&self, information: &[u8]) -> Result<Span, u8> {
+        let (sad, ead) = (address_in(information, 0), address_in(information, 3));
+        self.model().pair(sad, ead).ok_or(status::PARAMETER)
+    }
+
     fn begin(&mut self, information: &[u8], work: Work) -> Result<Vec<u8>, u8> {
-        let span = pair_in(information)?;
+        let span = self.pair_in(information)?;
         self.transfer = Some(Transfer { span, page: 0, work });
         Ok(ack())
     }
@@ -367,8 +381,4 @@ fn ack_and(body: &[u8]) -> Vec<u8> {
 
 fn address_in(information: &[u8], at: usize) -> u32 {
     frames::address_from([information[at], information[at + 1], information[at + 2]])
-}
-
-fn pair_in(information: &[u8]) -> Result<Span, u8> {
-    Span::of_pair(address_in(information, 0), address_in(information, 3)).ok_or(status::PARAMETER)
 }

@@ -1,12 +1,14 @@
 // A whole script: its lines one after the other, up to its end or the first bad one.
+use rules::Call;
 use rules::Chip;
 use rules::Flash;
 use text_lines::lines::bad_line;
 use text_lines::lines::room_for_bytes;
+use text_lines::told;
+use text_play::told::play_told;
 use text_read::in_hand;
 use text_read::in_hand::InHand;
 use text_read::line::line_end;
-use text_play::told::play_told;
 use text_read::part;
 use text_script::script_line;
 use text_script::script_line::Line;
@@ -14,6 +16,7 @@ use text_script::send;
 use text_script::session;
 use text_script::session::Session;
 use text_script::show;
+ghost use Prim.Native.Nat.{_≤_};
 
 // What stands between two lines.
 struct Between {
@@ -28,11 +31,6 @@ fn is_bad(said: Line) -> bool {
     }
 }
 
-fn fresh(s: Session, code: &mut [u8], data: &mut [u8]) -> Session {
-    let d = s.device;
-    session::fresh(d.chip, code, data)
-}
-
 // The bytes of a row stored, and the power off.
 fn store(s: Session, f: Flash, at: usize, row: &[u8], code: &mut [u8], data: &mut [u8]) -> Session {
     session::store(f, at, row, code, data);
@@ -44,7 +42,12 @@ fn store(s: Session, f: Flash, at: usize, row: &[u8], code: &mut [u8], data: &mu
 
 fn power_on(s: Session, code: &[u8], data: &[u8]) -> Session {
     io::write_all(1, b"!\n");
-    session::power_on(s, code, data)
+    let powered = session::power_on(s, code, data);
+    let call = powered.call;
+    if let Call::Refused(refusal) = call {
+        told::refused(refusal);
+    }
+    powered.session
 }
 
 fn show<'a>(s: Session, code: &'a [u8], data: &'a [u8]) -> Session {
@@ -68,7 +71,7 @@ fn play(s: Session, sheet: &[u8], code: &mut [u8], data: &mut [u8]) -> Session {
     }
 }
 
-// What a line does to the chip; one of a sheet, and a bad one, do nothing.
+// What a line does to the chip as it stands; one of a sheet, and a bad one, do nothing.
 fn act(
     said: Line,
     text: &[u8],
@@ -79,7 +82,7 @@ fn act(
 ) -> Session {
     match said {
         Line::Bad => s,
-        Line::Fresh => fresh(s, code, data),
+        Line::OfChip(_) => s,
         Line::Stored(o) => session::off(s, o),
         Line::Store(f, at) => store(s, f, at, part::rest(text, script_line::STORED), code, data),
         Line::PowerOn => power_on(s, &*code, &*data),
@@ -88,6 +91,38 @@ fn act(
         Line::Sheet => s,
         Line::Play => play(s, sheet, code, data),
     }
+}
+
+// How many bytes of a lent flash are the chip's; of a chip that is not known none are.
+fn lent(chip: Chip, f: Flash, room: usize) -> usize
+    ensures { λ r. ⌜ r ≤ room ⌝ }
+{
+    if !chip_finder::is_known(chip) {
+        return 0;
+    }
+    let size = chip_finder::block_count(chip, f) as usize * chip_finder::block_size(f);
+    if size > room {
+        return room;
+    }
+    size
+}
+
+// A line that names a chip begins a fresh one; any other has the chip's own part of the flashes.
+fn on_chip(
+    said: Line,
+    text: &[u8],
+    s: Session,
+    sheet: &[u8],
+    code: &mut [u8],
+    data: &mut [u8],
+) -> Session {
+    if let Line::OfChip(chip) = said {
+        return session::fresh(chip, code, data);
+    }
+    let d = s.device;
+    let m = lent(d.chip, Flash::Code, code.len());
+    let n = lent(d.chip, Flash::Data, data.len());
+    act(said, text, s, sheet, &mut code[0..m], &mut data[0..n])
 }
 
 // A line is run: it adds to the sheet in hand or closes it, and does what it says.
@@ -102,7 +137,7 @@ fn run(
     let before = b.sheet;
     let put = in_hand::after(before, text, sheet);
     let s = b.session;
-    let after = act(said, text, s, in_hand::bytes(put, &*sheet), code, data);
+    let after = on_chip(said, text, s, in_hand::bytes(put, &*sheet), code, data);
     Between {
         session: after,
         sheet: put,
@@ -124,7 +159,13 @@ fn lines(chip: Chip, text: &[u8], sheet: &mut [u8], code: &mut [u8], data: &mut 
             return number;
         }
         let line = part::between(text, at, end);
-        let said = script_line::parse(line, code.len(), data.len());
+        let s = b.session;
+        let d = s.device;
+        let said = script_line::parse(
+            line,
+            lent(d.chip, Flash::Code, code.len()),
+            lent(d.chip, Flash::Data, data.len()),
+        );
         if is_bad(said) {
             return number;
         }
@@ -134,10 +175,15 @@ fn lines(chip: Chip, text: &[u8], sheet: &mut [u8], code: &mut [u8], data: &mut 
     0
 }
 
-// A whole script, on a fresh chip with the power off and with an empty sheet in hand.
+// Room for the flashes of the larger chip.
+const CODE_ROOM: usize = 131072;
+
+const DATA_ROOM: usize = 8192;
+
+// A whole script, on a fresh small chip with the power off and with an empty sheet in hand.
 pub(crate) fn script(text: &[u8]) {
     let mut sheet = room_for_bytes();
-    let mut code = [0u8; 32768];
-    let mut data = [0u8; 2048];
+    let mut code = [0u8; CODE_ROOM];
+    let mut data = [0u8; DATA_ROOM];
     bad_line(lines(chip_finder::small(), text, &mut sheet, &mut code, &mut data));
 }

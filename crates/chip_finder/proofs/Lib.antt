@@ -1,4 +1,5 @@
 pub mod Geometry
+pub mod Known
 pub mod Parts
 pub mod Places
 pub mod Spots

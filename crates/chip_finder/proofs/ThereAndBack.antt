@@ -15,7 +15,7 @@ use Rattle.rules.specs.declared.Address.{Address}
 use Rattle.rules.specs.declared.Block.{Block}
 use Rattle.rules.specs.declared.Found.the-variants.{In, Nowhere}
 use Rattle.rules.specs.declared.Range.the-variants.{Blocks, Invalid}
-use Rattle.rules.specs.Chip.{small, block, start, blockSize, blocks, flashSize, firstByte, lastByte, within, blockAt, begins, ends, firstIn, pairIn, eraseAddress, range}
+use Rattle.rules.specs.Chip.{block, start, blockSize, blocks, flashSize, firstByte, lastByte, within, blockAt, begins, ends, firstIn, pairIn, eraseAddress, range}
 use Rattle.chip_finder.specs.declared.Spot.the-variants.{At}
 use Rattle.chip_finder.specs.OneFlash.{spotIn, byteIn, pairOf}
 use Rattle.rules.proofs.Choices.{both, each-of-five, picked, split}
@@ -51,9 +51,6 @@ pair-there chip f a b o h =
 -- code flash ends before data flash begins
 abbrev pub Apart : Chip → Type 0
 Apart chip = flashSize chip Code ≤ start Data
-
-pub small-apart : Apart small
-small-apart = omega arith
 
 not-in-code : (chip : Chip) → Apart chip → (o : ℕ) (a : Address) → start Data ≤ a .0 → byteIn chip Code o a ≡ Nowhere
 unfolding byteIn

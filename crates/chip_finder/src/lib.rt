@@ -10,17 +10,37 @@ ghost use mathlib.Core.Path.{_≡_};
 ghost use Prim.Native.Nat.{_+_, _-_, _*_, _<_, _≤_};
 ghost use lib.Dec.{eqb};
 ghost use lib.ListN.{length};
-ghost use Rattle.rules.specs.Chip.{blockSize, start, blocks, flashSize, pagesPerBlock, pageSize, pages, flashOf, firstByte, lastByte, eraseAddress, range, nowhere, invalid, shown, blockShown, pageShown};
+ghost use Rattle.rules.specs.Chip.{known, blockSize, start, blocks, flashSize, pagesPerBlock, pageSize, pages, flashOf, firstByte, lastByte, eraseAddress, range, nowhere, invalid, shown, blockShown, pageShown};
 ghost use Rattle.chip_finder.specs.LentFlashes.{memory, rangeShown};
 ghost use Rattle.chip_finder.specs.OneFlash.{spotIn, spotOf, byteIn, pairOf, placeOf, partsShown};
 
 // The bytes of a page.
 pub const PAGE_SIZE: usize = 256;
 
+// The two chips that are known.
 pub fn small() -> Chip
     ensures { λ r. ⌜ r ≡ Rattle.rules.specs.Chip.small ⌝ }
 {
     Chip { code: 16, data: 8 }
+}
+
+pub fn large() -> Chip
+    ensures { λ r. ⌜ r ≡ Rattle.rules.specs.Chip.large ⌝ }
+{
+    Chip { code: 64, data: 32 }
+}
+
+// A chip with other counts than these two is none.
+pub fn is_known(chip: Chip) -> bool
+    ensures { λ r. ⌜ r ≡ known chip ⌝ }
+{
+    if chip.code == 16 {
+        return chip.data == 8;
+    }
+    if chip.code == 64 {
+        return chip.data == 32;
+    }
+    false
 }
 
 pub fn block_size(f: Flash) -> usize

@@ -1,5 +1,6 @@
 // What the player is called with: the sheet in hand, the sizes of what is lent, and its record.
 use crate::show;
+use rules::Chip;
 use rules::Player;
 use text_read::in_hand;
 use text_read::in_hand::InHand;
@@ -7,7 +8,7 @@ use text_read::part;
 use text_read::rows;
 ghost use Prim.Native.Nat.{_≤_};
 
-// Between two lines: the sheet, and how many entries and bytes are lent. Until a play has begun the record is that of a
+// Between two lines: the sheet, how many entries and bytes are lent, and the chip that sheets are judged against. Until a play has begun the record is that of a
 // player before its first call.
 pub(crate) struct Hand {
     pub(crate) sheet: InHand,
@@ -15,6 +16,7 @@ pub(crate) struct Hand {
     pub(crate) room: usize,
     pub(crate) begun: bool,
     pub(crate) player: Player,
+    pub(crate) chip: Chip,
 }
 
 // Before the first line.
@@ -25,6 +27,7 @@ pub(crate) fn empty() -> Hand {
         room: 260,
         begun: false,
         player: player_absorb::new_player(),
+        chip: chip_finder::small(),
     }
 }
 
@@ -49,6 +52,13 @@ pub(crate) fn lend_room(h: Hand, n: usize) -> Hand {
     h
 }
 
+// Later calls are for that chip.
+pub(crate) fn use_chip(h: Hand, chip: Chip) -> Hand {
+    let mut h = h;
+    h.chip = chip;
+    h
+}
+
 // A play begins.
 pub(crate) fn begin(h: Hand) -> Hand {
     let mut h = h;
@@ -67,8 +77,14 @@ fn least(a: usize, b: usize) -> usize
 }
 
 // The player's call; what it answers is written.
-fn next(p: Player, sheet: &[u8], reply: &[u8], frame: &mut [u8], sums: &mut [u16]) -> Player {
-    let chip = chip_finder::small();
+fn next(
+    chip: Chip,
+    p: Player,
+    sheet: &[u8],
+    reply: &[u8],
+    frame: &mut [u8],
+    sums: &mut [u16],
+) -> Player {
     let c = player::call::next(chip, sheet, p, reply, frame, sums);
     let next = c.next;
     let report = c.report;
@@ -90,7 +106,9 @@ pub(crate) fn call(
     let room = least(h.room, frame.len());
     let entries = least(h.sums, sums.len());
     let p = h.player;
+    let chip = h.chip;
     h.player = next(
+        chip,
         p,
         sheet,
         part::between(reply, 0, end),

@@ -28,6 +28,7 @@ fn act(
 ) -> Hand {
     match said {
         Line::Bad => h,
+        Line::OfChip(chip) => hand::use_chip(h, chip),
         Line::Sheet => h,
         Line::Sums(n) => hand::lend_sums(h, n, sums),
         Line::Room(n) => hand::lend_room(h, n),

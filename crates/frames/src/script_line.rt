@@ -1,4 +1,7 @@
 // What a line of the script says.
+use rules::Chip;
+use text_read::chips;
+use text_read::chips::Named;
 use text_read::in_hand;
 use text_read::number;
 use text_read::number::Number;
@@ -8,6 +11,7 @@ use text_read::rows;
 
 pub(crate) enum Line {
     Bad,
+    OfChip(Chip),
     Sheet,
     Sums(usize),
     Room(usize),
@@ -26,6 +30,14 @@ fn of_sheet(text: &[u8]) -> Line {
         return Line::Sheet;
     }
     Line::Bad
+}
+
+// `chip small`, `chip large`, `chip C D`
+fn chip_line(text: &[u8]) -> Line {
+    match chips::chip(part::rest(text, 5)) {
+        Named::Is(chip) => Line::OfChip(chip),
+        Named::None => Line::Bad,
+    }
 }
 
 // `sums N`
@@ -81,6 +93,9 @@ pub(crate) fn parse(text: &[u8], begun: bool) -> Line {
     }
     if starts_with(text, b"<") {
         return reply_line(text, begun);
+    }
+    if starts_with(text, b"chip ") {
+        return chip_line(text);
     }
     Line::Bad
 }

@@ -23,7 +23,8 @@ use Rattle.rules.proofs.Choices.{both}
 use Rattle.player_laws.proofs.PlaceInSheet.{ready-stands, allowed-call}
 use Rattle.standin_state.specs.View.{Fits}
 use Rattle.standin_state.proofs.Lending.{lent-fits}
-use Rattle.joined_laws.specs.Turns.{Sized, Fit}
+use Rattle.joined_laws.specs.Turns.{Fit}
+use Rattle.joined_laws.proofs.Run.{accepted-sized}
 use Rattle.joined.specs.declared.Answer.the-variants.{Refused, NotAtStep, Busy, Played}
 use Rattle.joined_checks.specs.Checks.{joinedVerdict, isReady, startsStep}
 use Rattle.joined.specs.Plays.{outcome, sheetOutcome, lengths, judged, allPlayed, stepPlayed, sheetPlayed}
@@ -107,12 +108,12 @@ ready (Paged k) e = absurd (false≢true e)
 ready Over e = absurd (false≢true e)
 
 -- a step may start
-pub starts : (chip : Chip) (s : List ℕ) (j : Joined) → Sized chip → joinedVerdict chip s (j .player) (lengths j) ≡ Accepted
+pub starts : (chip : Chip) (s : List ℕ) (j : Joined) → joinedVerdict chip s (j .player) (lengths j) ≡ Accepted
     → startsStep chip s (j .player) ≡ true
     → waits chip (j .state) ≡ true
     → StepReady chip s j
 unfolding startsStep
-starts chip s j sized ok b w =
+starts chip s j ok b w =
     let g = good chip s (j .player) j ok in
     let p = j .player in
     let most = mostFrames (stepAt chip s (p .step)) in
@@ -120,7 +121,7 @@ starts chip s j sized ok b w =
     let stage = ready (p .stage) (q .0) in
     record {
       rooms = g .rooms;
-      sized = sized;
+      sized = accepted-sized chip s (length (j .sums)) (g .rooms .accepted);
       begins =
           record {
             stage = stage;
@@ -132,14 +133,14 @@ starts chip s j sized ok b w =
     }
 
 -- a sheet may be opened
-pub opens : (chip : Chip) (s : List ℕ) (j : Joined) → Sized chip → j .player ≡ newPlayer → joinedVerdict chip s newPlayer (lengths j) ≡ Accepted
+pub opens : (chip : Chip) (s : List ℕ) (j : Joined) → j .player ≡ newPlayer → joinedVerdict chip s newPlayer (lengths j) ≡ Accepted
     → waits chip (j .state) ≡ true
     → PlayReady chip s j
-opens chip s j sized new ok w =
+opens chip s j new ok w =
     let g = good chip s newPlayer j ok in
     record {
       rooms = g .rooms;
-      sized = sized;
+      sized = accepted-sized chip s (length (j .sums)) (g .rooms .accepted);
       fresh = ap (λ (p : Player). p .stage) new;
       waiting = w;
       fit = g .fit;

@@ -14,8 +14,8 @@ use Rattle.rules.specs.Sheet.{stepAt}
 use Rattle.rules.specs.Meaning.{stepFrames}
 use Rattle.rules.specs.Player.{newPlayer}
 use Rattle.rules.specs.Run.{clean, Joined, Ran, run, stepRun, waits}
-use Rattle.joined_laws.specs.Turns.{Sized, stepLeaves, StepEnds, Means}
-use Rattle.joined_laws.proofs.Run.{run-means}
+use Rattle.joined_laws.specs.Turns.{stepLeaves, StepEnds, Means}
+use Rattle.joined_laws.proofs.Run.{known-run}
 use Rattle.joined_laws.proofs.Steps.{step-ends}
 use Rattle.joined.specs.declared.Answer.{Answer}
 use Rattle.joined.specs.declared.Answer.the-variants.{Refused, NotAtStep, Busy, Played}
@@ -51,7 +51,7 @@ step-was Accepted true false j e h = differ Busy Played (λ z. omega arith) h
 step-was Accepted false b j e h = differ NotAtStep Played (λ z. omega arith) h
 step-was (v.Refused n) a b j e h = differ (Refused n) Played (λ z. omega arith) h
 
-module _ (chip : Chip) (sized : Sized chip) (s : List ℕ) (j : Joined) where
+module _ (chip : Chip) (s : List ℕ) (j : Joined) where
   -- A SHEET PLAYED by a new player: its end is that of the run, and so of the meaning, and the list has the frames of each step reached
   pub sheet-means : (each : List ℕ) → j .player ≡ newPlayer → sheetPlayed chip s j each .answer ≡ Played
       → (sheetPlayed chip s j each .reached ≡ run clean chip s j .reached)
@@ -63,7 +63,7 @@ module _ (chip : Chip) (sized : Sized chip) (s : List ℕ) (j : Joined) where
       let g = good chip s newPlayer j (w .0) in
       let p = sheet-played chip s j each (w .0) (w .1) in (
         ap (λ (o : SheetOutcome). o .reached) p,
-        run-means chip sized s j (ap (λ (p : Player). p .stage) new) (g .rooms .accepted) (w .1) (g .fit),
+        known-run chip s j (ap (λ (p : Player). p .stage) new) (g .rooms .accepted) (w .1) (g .fit),
         ap (λ (o : SheetOutcome). o .each) p,
       )
 
@@ -73,7 +73,7 @@ module _ (chip : Chip) (sized : Sized chip) (s : List ℕ) (j : Joined) where
   unfolding stepPlayed
   step-means h =
       let w = step-was (joinedVerdict chip s (j .player) (lengths j)) (startsStep chip s (j .player)) (waits chip (j .state)) j (stepRun clean chip s 0 j .reached) h in
-      let b = starts chip s j sized (w .0) (w .1) (w .2) in
-      let r = step-ends chip sized s (length (j .sums)) (b .rooms .accepted) 0 j (b .begins) in
+      let b = starts chip s j (w .0) (w .1) (w .2) in
+      let r = step-ends chip (b .sized) s (length (j .sums)) (b .rooms .accepted) 0 j (b .begins) in
       let e = ap (λ (o : Outcome). o .reached) (step-played chip s j (w .0) (w .1) (w .2)) ∙ ap (λ (x : Ran). x .reached) (r .ran) in
       rw e (r .ends)

@@ -14,6 +14,7 @@ use Rattle.rules.specs.Chip.{over}
 use Rattle.rules.specs.StandIn.{State, Out, rest, startOf, taskNow, onFrame}
 use Rattle.rules.specs.Player.{Absorbed, absorbs, absorbed, Sent, emitted}
 use Rattle.rules.specs.Run.{clean, Joined, joining, turned}
+use Rattle.rules.proofs.Sheet.{chip-known}
 use Rattle.standin_state.specs.View.{Fits}
 use Rattle.standin.specs.Feeding.{Feeding, feeding, fedInto}
 use Rattle.standin.proofs.Whole.{fed-frame}
@@ -71,7 +72,7 @@ module _ (chip : Chip) (s : List ℕ) (j : Joined) (t : TurnReady chip s j) wher
   fed-as : fedInto chip (j .state) (j .reply) (e .bytes) ≡ feeding (h .state) (Answer (length (h .answer))) (length (e .bytes)) (over (h .answer) (j .reply))
   fed-as =
       rw (t .framed .bytes)
-      (fed-heard chip s j (t .framed) (j .reply) (record { inCode = t .fit Code; inData = t .fit Data; room = t .rooms .reply }))
+      (fed-heard chip s j (t .framed) (j .reply) (record { counts = chip-known chip s (length (j .sums)) (t .rooms .accepted); inCode = t .fit Code; inData = t .fit Data; room = t .rooms .reply }))
 
   -- the answer taken in
   taken-as : absorbedIn chip s (e .player) (h .answer) (j .sums) ≡ absorbed chip s (e .player) (h .answer) (j .sums)

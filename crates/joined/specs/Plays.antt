@@ -9,6 +9,8 @@ use Rattle.rules.specs.declared.Stage.{Stage}
 use Rattle.rules.specs.declared.Stage.the-variants.{New, Ready, Block, Commanded, Page, Paged, Over}
 use Rattle.rules.specs.declared.Verdict.{Verdict}
 use Rattle.rules.specs.declared.Verdict.the-variants as verdict
+use Rattle.rules.specs.declared.numbers.Number.{Number}
+use Rattle.rules.specs.Numbers.{refusalNumber}
 use Rattle.rules.specs.Meaning.{stepFrames}
 use Rattle.rules.specs.Player.{newPlayer}
 use Rattle.rules.specs.Run.{Joined, clean, run, stepRun, waits}
@@ -27,6 +29,13 @@ isOver (Commanded k) = false
 isOver (Page k) = false
 isOver (Paged k) = false
 isOver Over = true
+
+-- the number of an answer: a refusal's by 01; S1 and S2 for the two that 01 does not number; none where it was played
+abbrev pub answerNumber : Answer → Number
+answerNumber (Refused n) = refusalNumber n
+answerNumber NotAtStep = record { letter = 0x53; number = 1 }
+answerNumber Busy = record { letter = 0x53; number = 2 }
+answerNumber Played = record { letter = 0; number = 0 }
 
 -- the answer, and player, stand-in and all that is lent after the call
 pub record Outcome : Type 0 where

@@ -1,17 +1,16 @@
 // One step of a sheet.
 use super::Answer;
 use super::Played;
-use joined_checks::LentSizes;
 use crate::Rig;
 use crate::stepping::step_through;
+use joined_checks::LentSizes;
 use rules::Chip;
 use rules::Player;
 use rules::Verdict;
 use standin_state::Core;
 ghost use mathlib.Core.Path.{_≡_};
-ghost use Rattle.joined_laws.specs.Turns.{Sized};
 ghost use Rattle.joined.specs.Rigs.{rigged};
-ghost use Rattle.joined.specs.Plays.{outcome, stepPlayed, given, Stands};
+ghost use Rattle.joined.specs.Plays.{answerNumber, outcome, stepPlayed, given, Stands};
 
 // The step at whose beginning the player stands. Where it is not played, all stands, to the byte.
 pub fn play_step(
@@ -26,7 +25,8 @@ pub fn play_step(
     frame: &mut [u8],
     sums: &mut [u16],
 ) -> Played
-    ensures { λ q. ⌜ (Sized chip → outcome (q .answer) (rigged (q .rig) (now (held .exit)) (now (code .exit)) (now («data» .exit)) (now (reply .exit)) (now (frame .exit)) (now (sums .exit))) ≡ stepPlayed chip (now (sheet .entry)) (rigged (record { player = p; core = c; arrived = 0 }) (now (held .entry)) (now (code .entry)) (now («data» .entry)) (now (reply .entry)) (now (frame .entry)) (now (sums .entry)))) ⌝ }
+    ensures { λ q. ⌜ outcome (q .answer) (rigged (q .rig) (now (held .exit)) (now (code .exit)) (now («data» .exit)) (now (reply .exit)) (now (frame .exit)) (now (sums .exit))) ≡ stepPlayed chip (now (sheet .entry)) (rigged (record { player = p; core = c; arrived = 0 }) (now (held .entry)) (now (code .entry)) (now («data» .entry)) (now (reply .entry)) (now (frame .entry)) (now (sums .entry))) ⌝ }
+    ensures { λ q. ⌜ answerNumber (q .answer) ≡ answerNumber (stepPlayed chip (now (sheet .entry)) (rigged (record { player = p; core = c; arrived = 0 }) (now (held .entry)) (now (code .entry)) (now («data» .entry)) (now (reply .entry)) (now (frame .entry)) (now (sums .entry))) .answer) ⌝ }
     ensures { λ q. ⌜ Stands (q .answer) (given (record { player = p; core = c; arrived = 0 }) (now (held .entry)) (now (code .entry)) (now («data» .entry)) (now (reply .entry)) (now (frame .entry)) (now (sums .entry))) (given (q .rig) (now (held .exit)) (now (code .exit)) (now («data» .exit)) (now (reply .exit)) (now (frame .exit)) (now (sums .exit))) ⌝ }
 {
     let rig = Rig {

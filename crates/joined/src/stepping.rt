@@ -6,7 +6,6 @@ use sheet::steps::most_frames;
 use sheet::steps::step_at;
 ghost use mathlib.Core.Path.{_≡_};
 ghost use Rattle.rules.specs.Run.{clean, stepRun};
-ghost use Rattle.joined_laws.specs.Turns.{Sized};
 ghost use Rattle.joined.specs.Rigs.{rigged};
 ghost use Rattle.joined.specs.Turn.{StepReady};
 
@@ -22,8 +21,8 @@ pub(crate) fn step_through(
     frame: &mut [u8],
     sums: &mut [u16],
 ) -> Rig
-    requires { ⌜ (Sized chip → StepReady chip (now sheet) (rigged r (now held) (now code) (now «data») (now reply) (now frame) (now sums))) ⌝ }
-    ensures { λ q. ⌜ (Sized chip → rigged q (now (held .exit)) (now (code .exit)) (now («data» .exit)) (now (reply .exit)) (now (frame .exit)) (now (sums .exit)) ≡ stepRun clean chip (now (sheet .entry)) 0 (rigged r (now (held .entry)) (now (code .entry)) (now («data» .entry)) (now (reply .entry)) (now (frame .entry)) (now (sums .entry))) .reached) ⌝ }
+    requires { ⌜ StepReady chip (now sheet) (rigged r (now held) (now code) (now «data») (now reply) (now frame) (now sums)) ⌝ }
+    ensures { λ q. ⌜ rigged q (now (held .exit)) (now (code .exit)) (now («data» .exit)) (now (reply .exit)) (now (frame .exit)) (now (sums .exit)) ≡ stepRun clean chip (now (sheet .entry)) 0 (rigged r (now (held .entry)) (now (code .entry)) (now («data» .entry)) (now (reply .entry)) (now (frame .entry)) (now (sums .entry))) .reached ⌝ }
 {
     let p = r.player;
     let most = most_frames(step_at(chip, sheet, p.step));

@@ -10,7 +10,6 @@ use standin::feeding::feed;
 ghost use mathlib.Core.Path.{_≡_};
 ghost use lib.ListN.{take};
 ghost use Rattle.rules.specs.Run.{clean, turned, between};
-ghost use Rattle.joined_laws.specs.Turns.{Sized};
 ghost use Rattle.joined.specs.Rigs.{rigged, answerSize};
 ghost use Rattle.joined.specs.Turn.{TurnReady};
 
@@ -61,8 +60,8 @@ pub(crate) fn turn(
     frame: &mut [u8],
     sums: &mut [u16],
 ) -> Rig
-    requires { ⌜ (Sized chip → TurnReady chip (now sheet) (rigged r (now held) (now code) (now «data») (now reply) (now frame) (now sums))) ⌝ }
-    ensures { λ q. ⌜ (Sized chip → rigged q (now (held .exit)) (now (code .exit)) (now («data» .exit)) (now (reply .exit)) (now (frame .exit)) (now (sums .exit)) ≡ turned clean chip (now (sheet .entry)) 0 (rigged r (now (held .entry)) (now (code .entry)) (now («data» .entry)) (now (reply .entry)) (now (frame .entry)) (now (sums .entry)))) ⌝ }
+    requires { ⌜ TurnReady chip (now sheet) (rigged r (now held) (now code) (now «data») (now reply) (now frame) (now sums)) ⌝ }
+    ensures { λ q. ⌜ rigged q (now (held .exit)) (now (code .exit)) (now («data» .exit)) (now (reply .exit)) (now (frame .exit)) (now (sums .exit)) ≡ turned clean chip (now (sheet .entry)) 0 (rigged r (now (held .entry)) (now (code .entry)) (now («data» .entry)) (now (reply .entry)) (now (frame .entry)) (now (sums .entry))) ⌝ }
 {
     let p = r.player;
     let c = r.core;

@@ -1,9 +1,9 @@
 // A whole sheet, step by step.
 use super::Answer;
 use super::Played;
-use joined_checks::LentSizes;
 use crate::Rig;
 use crate::stepping::step_through;
+use joined_checks::LentSizes;
 use player_absorb::absorb;
 use player_absorb::new_player;
 use rules::Chip;
@@ -16,9 +16,8 @@ ghost use mathlib.Core.Path.{_≡_};
 ghost use Prim.Native.Nat.{_-_};
 ghost use lib.ListN.{set};
 ghost use Rattle.rules.specs.Player.{newPlayer};
-ghost use Rattle.joined_laws.specs.Turns.{Sized};
 ghost use Rattle.joined.specs.Rigs.{rigged};
-ghost use Rattle.joined.specs.Plays.{isOver, sheetOutcome, playedTo, allPlayed, sheetPlayed, given, Stands};
+ghost use Rattle.joined.specs.Plays.{isOver, answerNumber, sheetOutcome, playedTo, allPlayed, sheetPlayed, given, Stands};
 ghost use Rattle.joined.specs.Ready.{PlayReady};
 
 // The play is over.
@@ -70,8 +69,8 @@ fn steps_through(
     sums: &mut [u16],
     each: &mut [usize; 64],
 ) -> Rig
-    requires { ⌜ (Sized chip → PlayReady chip (now sheet) (rigged r (now held) (now code) (now «data») (now reply) (now frame) (now sums))) ⌝ }
-    ensures { λ q. ⌜ (Sized chip → playedTo (rigged q (now (held .exit)) (now (code .exit)) (now («data» .exit)) (now (reply .exit)) (now (frame .exit)) (now (sums .exit))) (now (each .exit)) ≡ allPlayed chip (now (sheet .entry)) (rigged r (now (held .entry)) (now (code .entry)) (now («data» .entry)) (now (reply .entry)) (now (frame .entry)) (now (sums .entry))) (now (each .entry))) ⌝ }
+    requires { ⌜ PlayReady chip (now sheet) (rigged r (now held) (now code) (now «data») (now reply) (now frame) (now sums)) ⌝ }
+    ensures { λ q. ⌜ playedTo (rigged q (now (held .exit)) (now (code .exit)) (now («data» .exit)) (now (reply .exit)) (now (frame .exit)) (now (sums .exit))) (now (each .exit)) ≡ allPlayed chip (now (sheet .entry)) (rigged r (now (held .entry)) (now (code .entry)) (now («data» .entry)) (now (reply .entry)) (now (frame .entry)) (now (sums .entry))) (now (each .entry)) ⌝ }
 {
     let new = r.player;
     let core = r.core;
@@ -110,7 +109,8 @@ pub fn play(
     sums: &mut [u16],
     each: &mut [usize; 64],
 ) -> Played
-    ensures { λ q. ⌜ (Sized chip → sheetOutcome (q .answer) (rigged (q .rig) (now (held .exit)) (now (code .exit)) (now («data» .exit)) (now (reply .exit)) (now (frame .exit)) (now (sums .exit))) (now (each .exit)) ≡ sheetPlayed chip (now (sheet .entry)) (rigged (record { player = newPlayer; core = c; arrived = 0 }) (now (held .entry)) (now (code .entry)) (now («data» .entry)) (now (reply .entry)) (now (frame .entry)) (now (sums .entry))) (now (each .entry))) ⌝ }
+    ensures { λ q. ⌜ sheetOutcome (q .answer) (rigged (q .rig) (now (held .exit)) (now (code .exit)) (now («data» .exit)) (now (reply .exit)) (now (frame .exit)) (now (sums .exit))) (now (each .exit)) ≡ sheetPlayed chip (now (sheet .entry)) (rigged (record { player = newPlayer; core = c; arrived = 0 }) (now (held .entry)) (now (code .entry)) (now («data» .entry)) (now (reply .entry)) (now (frame .entry)) (now (sums .entry))) (now (each .entry)) ⌝ }
+    ensures { λ q. ⌜ answerNumber (q .answer) ≡ answerNumber (sheetPlayed chip (now (sheet .entry)) (rigged (record { player = newPlayer; core = c; arrived = 0 }) (now (held .entry)) (now (code .entry)) (now («data» .entry)) (now (reply .entry)) (now (frame .entry)) (now (sums .entry))) (now (each .entry)) .answer) ⌝ }
     ensures { λ q. ⌜ Stands (q .answer) (given (record { player = newPlayer; core = c; arrived = 0 }) (now (held .entry)) (now (code .entry)) (now («data» .entry)) (now (reply .entry)) (now (frame .entry)) (now (sums .entry))) (given (q .rig) (now (held .exit)) (now (code .exit)) (now («data» .exit)) (now (reply .exit)) (now (frame .exit)) (now (sums .exit))) ⌝ }
     ensures { λ q. ⌜ Stands (q .answer) (now (each .entry)) (now (each .exit)) ⌝ }
 {

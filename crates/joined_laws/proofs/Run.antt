@@ -15,12 +15,13 @@ use Rattle.rules.specs.declared.Player.{Player}
 use Rattle.rules.specs.declared.Report.{Report}
 use Rattle.rules.specs.declared.Stage.the-variants.{New, Over}
 use Rattle.rules.specs.declared.Verdict.the-variants.{Accepted}
-use Rattle.rules.specs.Chip.{small, start, flashSize}
+use Rattle.rules.specs.Chip.{small, large, known, start, blocks, flashSize}
 use Rattle.rules.specs.Sheet.{count, verdict, stepAt}
 use Rattle.rules.specs.Meaning.{Done, Ended, ended, stepMeaning, meaningFrom, meaning}
 use Rattle.rules.specs.Player.{player, well, Absorbed, beginning, started, Sent, reportOf, reportBy}
 use Rattle.rules.specs.Run.{clean, Joined, joining, takenIn, Ran, ran, none, runFrom, mostFrom, mostCalls, run, stepRun, waits}
-use Rattle.chip_finder.proofs.ThereAndBack.{small-apart}
+use Rattle.rules.proofs.Sheet.{chip-known}
+use Rattle.chip_finder.proofs.Known.{known-chip}
 use Rattle.sheet.proofs.Accepted.{whole}
 use Rattle.player_laws.proofs.Moves.{absorb-new, emit-over}
 use Rattle.joined_laws.specs.Turns.{Sized, Fit, Settled, mostCounted, AtBeginning, Leaves, leaves, StepEnds, StepRuns, endOf, Comes, Means}
@@ -212,14 +213,36 @@ run-means chip sized s j new ok w fit =
     comes-as refl (ap (runFrom clean chip s 0 calls) (sym (begun-as chip s j new)))
     (steps-run chip s sized room ok (count s) 0 0 0 calls start (before-first chip s start sized room ok refl w fit))
 
--- our chip
-pub small-sized : Sized small
-small-sized = record { apart = small-apart; few = few }
-  where
-    few : (f : Flash) → start f + flashSize small f ≤ 0x1000000
-    few Code = omega arith
-    few Data = omega arith
+-- ---- the known chips ----
 
-pub small-run : (s : List ℕ) (j : Joined) → j .player .stage ≡ New → verdict small s (length (j .sums)) ≡ Accepted
-    → waits small (j .state) ≡ true → Fit small (j .state .memory) → Means small s j (run clean small s j)
-small-run = run-means small small-sized
+-- a known chip's flashes lie apart, and three bytes hold every address
+pub known-sized : (chip : Chip) → known chip ≡ true → Sized chip
+known-sized chip k = go (known-chip chip k)
+  where
+    few : (c : Chip) → c .code ≤ 64 → c .«data» ≤ 32 → (f : Flash) → start f + flashSize c f ≤ 0x1000000
+    few c h g Code = omega arith
+    few c h g Data = omega arith
+
+    sized : (c : Chip) → c .code ≤ 64 → c .«data» ≤ 32 → Sized c
+    sized c h g = record { apart = omega arith; few = few c h g }
+
+    go : (chip ≡ small) ⊎ (chip ≡ large) → Sized chip
+    go (inl e) = rw e (sized small (omega arith) (omega arith))
+    go (inr e) = rw e (sized large (omega arith) (omega arith))
+
+-- it has code flash
+pub some-code : (chip : Chip) → known chip ≡ true → 0 < blocks chip Code
+some-code chip k = go (known-chip chip k)
+  where
+    go : (chip ≡ small) ⊎ (chip ≡ large) → 0 < chip .code
+    go (inl e) = rw e (omega arith)
+    go (inr e) = rw e (omega arith)
+
+-- an accepted sheet is one for a known chip
+pub accepted-sized : (chip : Chip) (s : List ℕ) (room : ℕ) → verdict chip s room ≡ Accepted → Sized chip
+accepted-sized chip s room ok = known-sized chip (chip-known chip s room ok)
+
+-- DEMAND 3: for every known chip, with sheets judged against it
+pub known-run : (chip : Chip) (s : List ℕ) (j : Joined) → j .player .stage ≡ New → verdict chip s (length (j .sums)) ≡ Accepted
+    → waits chip (j .state) ≡ true → Fit chip (j .state .memory) → Means chip s j (run clean chip s j)
+known-run chip s j new ok = run-means chip (accepted-sized chip s (length (j .sums)) ok) s j new ok

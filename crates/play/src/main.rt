@@ -3,8 +3,8 @@
 mod input;
 
 use input::Input;
-use text_read::part;
 use text_play::fresh::play_fresh;
+use text_read::part;
 
 fn main() {
     let mut sheet = input::room();

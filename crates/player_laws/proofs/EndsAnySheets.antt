@@ -12,7 +12,7 @@ use Rattle.rules.specs.declared.Refusal.{Refusal}
 use Rattle.rules.specs.declared.Stage.the-variants.{Over}
 use Rattle.rules.specs.declared.Verdict.{Verdict}
 use Rattle.rules.specs.declared.Verdict.the-variants.{Accepted, Refused}
-use Rattle.rules.specs.Chip.{small}
+use Rattle.rules.specs.Chip.{small, large}
 use Rattle.rules.specs.Player.{Called, playerVerdict, called}
 use Rattle.player_laws.specs.Calls.{Given, afterAny, once, taken, rank, mostRank}
 use Rattle.player_laws.proofs.Moves.{call-refused, call-over}
@@ -79,6 +79,9 @@ climbs chip p (g ∷ gs) z h = go (climbs chip q gs) verdict-of refl
 pub ends-any : (chip : Chip) (p : Player) (gs : List Given) → mostRank chip ≤ taken chip p gs → afterAny chip p gs .stage ≡ Over
 ends-any chip p gs h = climbs chip p gs (omega arith) (omega arith)
 
--- of our chip: 64 steps of 129 frames, and one call that has none to send
+-- of the known chips: 64 steps of 129 or of 513 frames, and one call that has none to send
 pub most-small : mostRank small ≡ 8257
 most-small = refl
+
+pub most-large : mostRank large ≡ 32833
+most-large = refl

@@ -1,6 +1,6 @@
--- A sheet is accepted precisely when none of the rules J1 to J10 is broken. Assumes nothing.
-use mathlib.Core.Path.{_≡_, refl}
-use mathlib.Core.Bool.{Bool, true, false, cond}
+-- A sheet is accepted precisely when none of the rules D0 and J1 to J10 is broken. Assumes nothing.
+use mathlib.Core.Path.{_≡_, refl, sym}
+use mathlib.Core.Bool.{Bool, true, false, cond, not}
 use mathlib.Core.List.{List}
 use Prim.Native.Nat.{ℕ, zero, suc, _+_, _≤_, _<_}
 use native.Mathlib.Omega.{arith}
@@ -8,9 +8,11 @@ use lib.Dec.{eqb}
 use borrow.Author.Tests.{eqb-true, eqb-false}
 use Rattle.rules.specs.declared.Chip.{Chip}
 use Rattle.rules.specs.declared.Refusal.{Refusal}
+use Rattle.rules.specs.declared.Refusal.the-variants.{D0}
 use Rattle.rules.specs.declared.Verdict.{Verdict}
 use Rattle.rules.specs.declared.Verdict.the-variants.{Accepted, Refused}
 use Rattle.rules.specs.First.{andThen, first}
+use Rattle.rules.specs.Chip.{known}
 use Rattle.rules.specs.Sheet.{count, J1, J2, J3, J4, J5, J6, J7, J8, J9, J10, headVerdict, entryVerdict, entriesVerdict, sheetVerdict, verdict}
 
 -- no rule of an entry is broken
@@ -29,8 +31,9 @@ pub record SheetAllowed (chip : Chip) (s : List ℕ) : Type 0 where
   pub entries : (i : ℕ) → i < count s → EntryAllowed chip s i
   pub j9 : J9 s ≡ false
 
--- nor that of the room for its sums
+-- the chip is known, and the room for its sums is there
 pub record Allowed (chip : Chip) (s : List ℕ) (room : ℕ) : Type 0 where
+  pub d0 : not (known chip) ≡ false
   pub sheet : SheetAllowed chip s
   pub j10 : J10 s room ≡ false
 
@@ -112,16 +115,27 @@ module _ (chip : Chip) (s : List ℕ) where
 
   -- THE LAW
   module _ (room : ℕ) where
+    -- of a known chip; the sheet's own rules; and the room
+    parts : verdict chip s room ≡ Accepted → (not (known chip) ≡ false) × (sheetVerdict chip s ≡ Accepted) × (J10 s room ≡ false)
+    unfolding verdict first
+    parts e =
+        let a = both (cond (not (known chip)) (Refused D0) Accepted) _ e in
+        let b = both (sheetVerdict chip s) _ (a .1) in
+        (unbroken (not (known chip)) _ _ (a .0) .0, b .0, unbroken (J10 s room) _ _ (b .1) .0)
+
+    pub chip-known : verdict chip s room ≡ Accepted → known chip ≡ true
+    chip-known e = unturned (known chip) (parts e .0)
+      where
+        unturned : (b : Bool) → not b ≡ false → b ≡ true
+        unturned true h = refl
+        unturned false h = sym h
+
     pub sheet-accepted : verdict chip s room ≡ Accepted → sheetVerdict chip s ≡ Accepted
-    unfolding verdict
-    sheet-accepted e = both (sheetVerdict chip s) _ e .0
+    sheet-accepted e = parts e .1
 
     pub accepted-allowed : verdict chip s room ≡ Accepted → Allowed chip s room
-    unfolding verdict first
-    accepted-allowed e =
-        let b = both (sheetVerdict chip s) _ e in
-        record { sheet = sheet-allowed (b .0); j10 = unbroken (J10 s room) _ _ (b .1) .0 }
+    accepted-allowed e = let p = parts e in record { d0 = p .0; sheet = sheet-allowed (p .1); j10 = p .2 }
 
     pub allowed-accepted : Allowed chip s room → verdict chip s room ≡ Accepted
     unfolding verdict first
-    allowed-accepted a = rw (allowed-sheet (a .sheet), a .j10)
+    allowed-accepted a = rw (a .d0, allowed-sheet (a .sheet), a .j10)

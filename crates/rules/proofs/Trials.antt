@@ -7,6 +7,7 @@ use Rattle.rules.specs.Starred.{starred}
 use Rattle.rules.specs.Trials.{further, sheets, lengths, playerCalls}
 use Rattle.rules.proofs.Rows.{All, Held, all-held, Played, all-played, Lent, all-lent, Answers, all-answer}
 use Rattle.rules.specs.Texts.{allPrint, printed, texts}
+use Rattle.rules.specs.Chips.{chipLengths, chipSessions, chipSheets}
 
 -- THE STARRED TRIALS, 1 to 12
 pub starred-trials : allHold starred ≡ true
@@ -37,6 +38,19 @@ pub text-trials : allPrint texts ≡ true
 unfolding everything allPrint printed texts
 text-trials = refl
 
+-- M-105: both chips, and other counts
+pub chip-lengths : allLend chipLengths ≡ true
+unfolding everything lends allLend chipLengths
+chip-lengths = refl
+
+pub chip-sessions : allHold chipSessions ≡ true
+unfolding everything comesLast exchanged holds allHold chipSessions
+chip-sessions = refl
+
+pub chip-sheets : allPlay chipSheets ≡ true
+unfolding everything plays allPlay chipSheets
+chip-sheets = refl
+
 -- ---- what the rows say ----
 
 pub starred-say : All Held starred
@@ -53,3 +67,12 @@ lengths-say = all-lent lengths length-trials
 
 pub calls-say : All Answers playerCalls
 calls-say = all-answer playerCalls call-trials
+
+pub chip-lengths-say : All Lent chipLengths
+chip-lengths-say = all-lent chipLengths chip-lengths
+
+pub chip-sessions-say : All Held chipSessions
+chip-sessions-say = all-held chipSessions chip-sessions
+
+pub chip-sheets-say : All Played chipSheets
+chip-sheets-say = all-played chipSheets chip-sheets

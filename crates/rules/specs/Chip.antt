@@ -1,6 +1,6 @@
 -- 01, Our chip: bytes, parts of a flash, blocks, pages and addresses. Assumes nothing.
 use Prim.Native.Nat.{ℕ, _+_, _-_, _*_, _/_, _%_}
-use mathlib.Core.Bool.{Bool, true, false, cond, _&&_}
+use mathlib.Core.Bool.{Bool, true, false, cond, _&&_, _||_}
 use mathlib.Core.List.{List, [], _∷_, _++_}
 use lib.Dec.{ltb, leb, eqb}
 use lib.ListN.{length, getD, take, drop, replicate}
@@ -75,6 +75,17 @@ shown size count i flash =
 -- "16 blocks of 2,048", "8 blocks of 256", "A page is 256 bytes", "Data flash .. from F1000h"
 abbrev pub small : Chip
 small = record { code = 16; «data» = 8 }
+
+-- 02, M-105: "64 code blocks of 2,048 and 32 data blocks of 256"
+abbrev pub large : Chip
+large = record { code = 64; «data» = 32 }
+
+-- "a record with other counts than these two is D0"
+abbrev pub sameCounts : Chip → Chip → Bool
+sameCounts a b = eqb (a .code) (b .code) && eqb (a .«data») (b .«data»)
+
+unfoldable pub known : Chip → Bool
+known chip = sameCounts chip small || sameCounts chip large
 
 abbrev pub blockSize : Flash → ℕ
 blockSize Code = 2048

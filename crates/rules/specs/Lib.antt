@@ -17,3 +17,4 @@ pub mod Rows
 pub mod Starred
 pub mod Trials
 pub mod Texts
+pub mod Chips

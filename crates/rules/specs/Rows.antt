@@ -240,7 +240,7 @@ abbrev pub ack : List ℕ
 ack = 0x02 ∷ 0x01 ∷ 0x06 ∷ 0xF9 ∷ 0x03 ∷ []
 
 -- a session opened to phase Command, which leaves options as they were and the stand-in waiting
-abbrev opening : List Exchange
+abbrev pub opening : List Exchange
 opening = to mode [] ∷ to speed (0x02 ∷ 0x03 ∷ 0x06 ∷ 0x20 ∷ 0x00 ∷ 0xD7 ∷ 0x03 ∷ []) ∷ []
 
 abbrev pub session : Options → Memory → List Exchange → Memory → Session

@@ -16,7 +16,7 @@ use Rattle.rules.specs.declared.Kind.{Kind}
 use Rattle.rules.specs.declared.Kind.the-variants.{Erase, Write, Verify, Sum}
 use Rattle.rules.specs.declared.Step.{Step}
 use Rattle.rules.specs.First.{refuse, firstBroken, andThen}
-use Rattle.rules.specs.Chip.{byteAt, wordAt, addressAt, block, blockSize, blocksFrom, pagesFrom, pageSize, range, invalid}
+use Rattle.rules.specs.Chip.{byteAt, wordAt, addressAt, known, block, blockSize, blocksFrom, pagesFrom, pageSize, range, invalid}
 
 -- ---- what stands where ----
 
@@ -141,9 +141,12 @@ sheetVerdict chip s =
     let later = andThen entries (firstBroken (refuse r.J9 (J9 s) ∷ [])) in
     andThen (headVerdict s) later
 
--- THE VERDICT, of a sheet and the room in the list for sums: its own rules, then J10
+-- THE VERDICT, of a sheet and the room in the list for sums: D0 "before every J" (02, M-105), the sheet's own rules, then J10
 unfoldable pub verdict : Chip → List ℕ → ℕ → Verdict
-verdict chip s room = andThen (sheetVerdict chip s) (firstBroken (refuse r.J10 (J10 s room) ∷ []))
+verdict chip s room =
+    let own = sheetVerdict chip s in
+    andThen (firstBroken (refuse r.D0 (not (known chip)) ∷ []))
+    (andThen own (firstBroken (refuse r.J10 (J10 s room) ∷ [])))
 
 -- ---- the steps of an accepted sheet ----
 

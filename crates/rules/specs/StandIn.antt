@@ -19,11 +19,11 @@ use Rattle.rules.specs.declared.Fault.the-variants.{Well, EndByte, Sum, 
 use Rattle.rules.specs.declared.Fault.the-variants as fault
 use Rattle.rules.specs.declared.Call.{Call}
 use Rattle.rules.specs.declared.Call.the-variants.{Refused, Answer}
-use Rattle.rules.specs.declared.Refusal.the-variants.{D1, D2, D3}
+use Rattle.rules.specs.declared.Refusal.the-variants.{D0, D1, D2, D3}
 use Rattle.rules.specs.declared.Verdict.{Verdict}
 use Rattle.rules.specs.declared.Verdict.the-variants as verdict
 use Rattle.rules.specs.First.{rule, firstFault, refuse, firstBroken, andThen}
-use Rattle.rules.specs.Chip.{Memory, flashSize, same, blank, over, pages, pageOf, putPage, blockOfPage}
+use Rattle.rules.specs.Chip.{Memory, known, flashSize, same, blank, over, pages, pageOf, putPage, blockOfPage}
 use Rattle.rules.specs.Options.{IFPR, writeProtected}
 use Rattle.rules.specs.Frame.{commandStart, dataStart, frameSize, one, pair, lenOf, bodyOf, whole, statusByte, dataFault}
 use Rattle.rules.specs.Command.{judged, done}
@@ -180,11 +180,15 @@ step chip s b = takes (s .phase) chip s b
 
 -- ---- what is lent: the refusals D ----
 
--- "D1 if lent code flash is not 32,768 long, D2 if data flash is not 2,048": by the lengths of the lent flashes
+-- "D1 if lent code flash is not 32,768 long, D2 if data flash is not 2,048": now the chip's own lengths; and before them D0, of a chip that
+-- is not known (02, M-105). By the lengths of the lent flashes
 unfoldable pub flashVerdict : Chip → ℕ → ℕ → Verdict
 flashVerdict chip code dat =
     firstBroken
-    (refuse D1 (not (eqb code (flashSize chip Code))) ∷ refuse D2 (not (eqb dat (flashSize chip Data))) ∷ [])
+    (refuse D0 (not (known chip))
+    ∷ refuse D1 (not (eqb code (flashSize chip Code)))
+    ∷ refuse D2 (not (eqb dat (flashSize chip Data)))
+    ∷ [])
 
 -- "D3 if the reply buffer is under 16 bytes, in that order"
 abbrev pub replyRoom : ℕ
@@ -213,7 +217,7 @@ unfoldable pub powerBy : Verdict → State → Options → Memory → Powered
 powerBy verdict.Accepted given o m = record { state = powered o m; call = Answer 0 }
 powerBy (verdict.Refused n) given o m = record { state = given; call = Refused n }
 
--- POWER-ON: "Power-on knows D1 and D2"
+-- POWER-ON: "Power-on knows D1 and D2", and D0 before them
 unfoldable pub powerOn : Chip → State → Options → Memory → Powered
 unfolding powerBy
 powerOn chip given o m = powerBy (flashVerdict chip (length (m .code)) (length (m .«data»))) given o m

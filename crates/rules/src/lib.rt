@@ -7,7 +7,7 @@ pub const FRAME_ROOM: usize = 260;
 
 pub const REPLY_ROOM: usize = 16;
 
-// Our chip: how many blocks its code flash and its data flash have.
+// A chip: how many blocks its code flash and its data flash have. Two are known.
 pub struct Chip {
     pub code: u16,
     pub data: u16,
@@ -118,6 +118,7 @@ pub enum Judged {
 
 // The refusals that 01 numbers.
 pub enum Refusal {
+    D0,
     D1,
     D2,
     D3,

@@ -14,6 +14,7 @@ fn letter_of(refusal: Refusal) -> u8
     ensures { λ r. ⌜ r ≡ refusalNumber refusal .letter ⌝ }
 {
     match refusal {
+        Refusal::D0 => b'D',
         Refusal::D1 => b'D',
         Refusal::D2 => b'D',
         Refusal::D3 => b'D',
@@ -36,6 +37,7 @@ fn number_of(refusal: Refusal) -> u8
     ensures { λ r. ⌜ r ≡ refusalNumber refusal .number ⌝ }
 {
     match refusal {
+        Refusal::D0 => 0,
         Refusal::D1 => 1,
         Refusal::D2 => 2,
         Refusal::D3 => 3,

@@ -10,7 +10,7 @@ use Rattle.rules.specs.declared.Chip.{Chip}
 use Rattle.rules.specs.declared.Refusal.{Refusal}
 use Rattle.rules.specs.declared.Refusal.the-variants as r
 use Rattle.rules.specs.declared.Verdict.the-variants.{Accepted, Refused}
-use Rattle.rules.specs.Chip.{invalid}
+use Rattle.rules.specs.Chip.{known, invalid}
 use Rattle.rules.specs.First.{first}
 use Rattle.rules.proofs.Choices.{or-true, and-false}
 use Rattle.rules.specs.Sheet.{headSize, count, tableEnd, mostBytes, lastKind, kindAt, zeroAt, rangeAt, offsetAt, offsetDue, bodyEnd, J1, J4, J9, headVerdict, entryVerdict, entriesVerdict, sheetVerdict, verdict, stepAt}
@@ -109,21 +109,26 @@ module _ (chip : Chip) (s : List ℕ) where
       unfolding sheetVerdict first
       sheet-allowed h = rw (head, entries, h)
 
--- ---- the room for its sums ----
+-- ---- the chip, and the room for its sums ----
 
 module _ (chip : Chip) (s : List ℕ) (room : ℕ) where
-  pub sheet-refused : (n : Refusal) → sheetVerdict chip s ≡ Refused n → verdict chip s room ≡ Refused n
-  unfolding verdict
-  sheet-refused n h = rw h
+  pub no-chip : known chip ≡ false → verdict chip s room ≡ Refused r.D0
+  unfolding verdict first
+  no-chip h = rw h
 
-  module _ (sheet : sheetVerdict chip s ≡ Accepted) where
-    pub no-room : room < count s → verdict chip s room ≡ Refused r.J10
+  module _ (counts : known chip ≡ true) where
+    pub sheet-refused : (n : Refusal) → sheetVerdict chip s ≡ Refused n → verdict chip s room ≡ Refused n
     unfolding verdict first
-    no-room h = rw (sheet, lt-ltb room (count s) h)
+    sheet-refused n h = rw (counts, h)
 
-    pub room-allowed : count s ≤ room → verdict chip s room ≡ Accepted
-    unfolding verdict first
-    room-allowed h = rw (sheet, le-ltb room (count s) h)
+    module _ (sheet : sheetVerdict chip s ≡ Accepted) where
+      pub no-room : room < count s → verdict chip s room ≡ Refused r.J10
+      unfolding verdict first
+      no-room h = rw (counts, sheet, lt-ltb room (count s) h)
+
+      pub room-allowed : count s ≤ room → verdict chip s room ≡ Accepted
+      unfolding verdict first
+      room-allowed h = rw (counts, sheet, le-ltb room (count s) h)
 
 -- ---- a step, read from a sheet that was not judged ----
 

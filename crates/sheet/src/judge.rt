@@ -1,4 +1,4 @@
-// The rules: J1 to J10 in the order of the document, each with its own return. No body is read.
+// The rules: D0 and J1 to J10 in the order of the documents, each with its own return. No body is read.
 use crate::table::Entry;
 use crate::table::body_end;
 use crate::table::count;
@@ -7,6 +7,7 @@ use crate::table::head_size;
 use crate::table::offset_due;
 use crate::table::table_end;
 use chip_finder::is_invalid;
+use chip_finder::is_known;
 use chip_finder::range;
 use rules::Chip;
 use rules::Refusal;
@@ -126,11 +127,14 @@ pub fn sheet_verdict(chip: Chip, sheet: &[u8]) -> Verdict
     Verdict::Accepted
 }
 
-// The verdict on a sheet, with room for so many sums: its own rules, then J10.
+// The verdict on a sheet, with room for so many sums: D0, its own rules, then J10.
 pub fn verdict(chip: Chip, sheet: &[u8], room: usize) -> Verdict
     ensures { λ r. ⌜ r ≡ verdict chip (now (sheet .entry)) room ⌝ }
     ensures { λ r. ⌜ verdictNumber r ≡ verdictNumber (verdict chip (now (sheet .entry)) room) ⌝ }
 {
+    if !is_known(chip) {
+        return Verdict::Refused(Refusal::D0);
+    }
     if let Verdict::Refused(refusal) = sheet_verdict(chip, sheet) {
         return Verdict::Refused(refusal);
     }

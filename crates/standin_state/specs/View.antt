@@ -1,7 +1,7 @@
 -- What a device's record shows, with nothing received: the state that the definitions speak of. Assumes nothing.
 use Prim.Native.Nat.{ℕ, _≤_}
 use mathlib.Core.Path.{_≡_}
-use mathlib.Core.Bool.{cond}
+use mathlib.Core.Bool.{true, cond}
 use mathlib.Core.List.{List, []}
 use lib.ListN.{length}
 use Rattle.rules.specs.declared.Chip.{Chip}
@@ -13,7 +13,7 @@ use Rattle.rules.specs.declared.Task.{Task}
 use Rattle.rules.specs.declared.Call.the-variants.{Answer}
 use Rattle.rules.specs.declared.Verdict.{Verdict}
 use Rattle.rules.specs.declared.Verdict.the-variants.{Accepted, Refused}
-use Rattle.rules.specs.Chip.{Memory, flashSize}
+use Rattle.rules.specs.Chip.{Memory, known, flashSize}
 use Rattle.rules.specs.StandIn.{State, Out, Outcome, out, rest, ahead, answered}
 use Rattle.standin_state.specs.declared.Core.{Core}
 use Rattle.standin_state.specs.declared.Response.{Response}
@@ -47,8 +47,9 @@ handed (Refused n) s x = unanswered s
 abbrev pub handedPage : Chip → Pages → Verdict → State → Out → Out
 handedPage chip p v s x = handed v s (cond (ahead chip p) x (unanswered s))
 
--- lent flashes and reply buffer as the refusals D1 to D3 ask
+-- chip, lent flashes and reply buffer as the refusals D0 to D3 ask
 pub record Fits (chip : Chip) (code dat reply : List ℕ) : Type 0 where
+  pub counts : known chip ≡ true
   pub inCode : length code ≡ flashSize chip Code
   pub inData : length dat ≡ flashSize chip Data
   pub room : 16 ≤ length reply

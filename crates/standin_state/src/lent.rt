@@ -7,10 +7,13 @@ use rules::Verdict;
 ghost use mathlib.Core.Path.{_≡_};
 ghost use Rattle.rules.specs.StandIn.{flashVerdict, lentVerdict};
 
-// D1 and D2, by the lengths of the lent flashes.
+// D0, D1 and D2, by the chip and the lengths of the lent flashes.
 pub fn flash_verdict(chip: Chip, code: usize, data: usize) -> Verdict
     ensures { λ r. ⌜ r ≡ flashVerdict chip code «data» ⌝ }
 {
+    if !chip_finder::is_known(chip) {
+        return Verdict::Refused(Refusal::D0);
+    }
     if !chip_finder::has_size(chip, Flash::Code, code) {
         return Verdict::Refused(Refusal::D1);
     }

@@ -1,7 +1,8 @@
 -- A fresh chip, waiting for a command: the text of what a play of any bytes comes to is that of the meaning, and it has room. Assumes nothing.
 use mathlib.Core.Path.{_≡_, refl, sym, ap, subst, _∙_}
+use mathlib.Core.Bool.{true}
 use mathlib.Core.List.{List}
-use Prim.Native.Nat.{ℕ, _≤_, _<_}
+use Prim.Native.Nat.{ℕ, _≤_}
 use native.Mathlib.Omega.{arith}
 use lib.ListN.{length, take, replicate, length-replicate}
 use Rattle.rules.specs.declared.Chip.{Chip}
@@ -11,7 +12,7 @@ use Rattle.rules.specs.declared.Phase.the-variants.{Command}
 use Rattle.rules.specs.declared.Task.the-variants.{Idle}
 use Rattle.rules.specs.declared.Verdict.{Verdict}
 use Rattle.rules.specs.declared.Verdict.the-variants.{Accepted, Refused}
-use Rattle.rules.specs.Chip.{small, blocks, flashSize, blankByte, freshMemory, identOf, identSize}
+use Rattle.rules.specs.Chip.{small, known, flashSize, blankByte, freshMemory, identOf, identSize}
 use Rattle.rules.specs.Numbers.{callNumber}
 use Rattle.rules.specs.Options.{IFPR, freshOptions}
 use Rattle.rules.specs.StandIn.{State, powerOn, rest}
@@ -31,10 +32,10 @@ use Rattle.standin.specs.declared.feeding.Fed.{Fed}
 use Rattle.standin.specs.Shows.{shows, poweredAs}
 use Rattle.standin.specs.Feeding.{fedAs}
 use Rattle.standin.specs.Opening.{openingRoom, openingVerdict, opened}
-use Rattle.joined_laws.specs.Turns.{Sized, Fit}
+use Rattle.joined_laws.specs.Turns.{Fit}
 use Rattle.joined_laws.proofs.FramesHeard.{rest-waits}
 use Rattle.joined_laws.proofs.MeaningBounds.{meaning-few, each-few, zero-few}
-use Rattle.joined_laws.proofs.Run.{small-sized}
+use Rattle.joined_laws.proofs.Run.{accepted-sized}
 use Rattle.joined_checks.specs.Checks.{joinedVerdict}
 use Rattle.joined.specs.Plays.{lengths}
 use Rattle.joined.proofs.Calls.{sheet-refused}
@@ -63,7 +64,7 @@ module _ (s : List ℕ) where
       refused = rw e
   by-verdict Accepted e =
       let o = played small s waiting in
-      let c = comes small small-sized s (replicate 260 0) (replicate 16 0) none none e (omega arith) (omega arith) waiting fresh-fit (rest-waits small freshOptions (freshMemory small)) (o .answer) (o .reached) (o .each) refl in
+      let c = comes small s (replicate 260 0) (replicate 16 0) none none e (omega arith) (omega arith) waiting fresh-fit (rest-waits small freshOptions (freshMemory small)) (o .answer) (o .reached) (o .each) refl in
       rw (c .played, ap (λ (x : Ended). x .report) (c .end), ap (λ (x : Ended). x .sums) (c .end), c .frames)
 
   -- its length
@@ -71,9 +72,10 @@ module _ (s : List ℕ) where
   unfolding verdictText
   fits-by (Refused n) e = omega (arith, refused-fits n)
   fits-by Accepted e =
-      let few = meaning-few small small-sized s 64 e freshOptions (freshMemory small) none in
+      let sized = accepted-sized small s 64 e in
+      let few = meaning-few small sized s 64 e freshOptions (freshMemory small) none in
       let steps = whole small s 64 e .steps in
-      let each = each-few small small-sized s 64 e freshOptions (freshMemory small) none (λ j. omega (arith, zero-few 64 j)) in
+      let each = each-few small sized s 64 e freshOptions (freshMemory small) none (λ j. omega (arith, zero-few 64 j)) in
       play-fits small s (freshMeaning s .report) (freshMeaning s .sums) (freshFrames s) 64 e
       (record {
         steps = omega (arith, few .few-steps, steps);
@@ -103,6 +105,10 @@ module _ (s : List ℕ) where
 pub blank-memory : (code dat : List ℕ) → code ≡ freshMemory small .code → dat ≡ freshMemory small .«data» → memory code dat ≡ freshMemory small
 blank-memory code dat e f = rw (e, f)
 
+small-known : known small ≡ true
+unfolding known
+small-known = refl
+
 fresh-ident : identOf (freshMemory small) ≡ replicate identSize blankByte
 fresh-ident = refl
 
@@ -115,17 +121,16 @@ module _ (k : Chip) (is : k ≡ small) (d : Device) (same : d .chip ≡ k) (o : 
   brought : view (f .core) held (memory code1 dat1) ≡ waiting
   brought =
       let fit : Fit k (memory code dat) = rw (is, blank) fresh-fit in
-      let some : 0 < blocks k Code = rw is (omega arith) in
       let on· : IFPR o ≡ 0 → ⊥ = rw fresh (λ z. omega arith) in
       let id-is : id ≡ identOf (memory code dat) = own ∙ sym fresh-ident ∙ ap identOf (sym blank) in
       let fed· = fed ∙ ap (opened k (shows (a .device) (memory code dat)) out) id-is in
-      power-on-opens k d same o code dat fit a on f held code1 dat1 out1 some on· out room fed· well ∙ rw (fresh, blank)
+      power-on-opens k (rw is small-known) d same o code dat fit a on f held code1 dat1 out1 on· out room fed· well ∙ rw (fresh, blank)
 
   -- THE PROGRAM'S CALL: what its parts promise comes to the text
   pub all-told : (s before after : List ℕ) (n : ℕ)
-      → (Sized k → Filled (outcomeText k s (played k s (view (f .core) held (memory code1 dat1)))) before n after)
+      → Filled (outcomeText k s (played k s (view (f .core) held (memory code1 dat1)))) before n after
       → 2048 ≤ length before
       → take n after ≡ freshText s
   all-told s before after n told =
       fresh-told s (view (f .core) held (memory code1 dat1)) brought before after n
-      (subst (λ (x : Chip). Filled (outcomeText x s (played x s (view (f .core) held (memory code1 dat1)))) before n after) is (told (rw is small-sized)))
+      (subst (λ (x : Chip). Filled (outcomeText x s (played x s (view (f .core) held (memory code1 dat1)))) before n after) is told)

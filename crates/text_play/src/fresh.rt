@@ -10,17 +10,21 @@ ghost use lib.ListN.{length, take};
 ghost use Rattle.rules.specs.Chip.{small, freshMemory};
 ghost use Rattle.text_play.specs.Fresh.{freshText};
 
-// Blank flashes of the small chip.
-fn blank_code() -> [u8; 32768]
+// The flashes of the small chip.
+const CODE_SIZE: usize = 32768;
+
+const DATA_SIZE: usize = 2048;
+
+fn blank_code() -> [u8; CODE_SIZE]
     ensures { λ r. ⌜ r ≡ freshMemory small .code ⌝ }
 {
-    [0xFF; 32768]
+    [0xFF; CODE_SIZE]
 }
 
-fn blank_data() -> [u8; 2048]
+fn blank_data() -> [u8; DATA_SIZE]
     ensures { λ r. ⌜ r ≡ freshMemory small .«data» ⌝ }
 {
-    [0xFF; 2048]
+    [0xFF; DATA_SIZE]
 }
 
 // Power-on, the opening, the play: the first bytes of the buffer are then the text of it.

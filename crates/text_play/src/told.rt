@@ -13,7 +13,6 @@ ghost use Rattle.rules.specs.Text.{playText};
 ghost use Rattle.chip_finder.specs.LentFlashes.{memory};
 ghost use Rattle.standin_engine.specs.View.{view};
 ghost use Rattle.text_out.specs.Out.{Filled};
-ghost use Rattle.joined_laws.specs.Turns.{Sized};
 ghost use Rattle.text_play.specs.Told.{played, answerText, outcomeText};
 
 // The stand-in after a play, and how many bytes of the buffer are the text.
@@ -52,8 +51,8 @@ pub fn play_told(
     data: &mut [u8],
     text: &mut [u8],
 ) -> Told
-    ensures { λ r. ⌜ (Sized chip → Filled (outcomeText chip (now (sheet .entry)) (played chip (now (sheet .entry)) (view c (now (held .entry)) (memory (now (code .entry)) (now («data» .entry)))))) (now (text .entry)) (r .size) (now (text .exit))) ⌝ }
-    ensures { λ r. ⌜ (Sized chip → view (r .core) (now (held .exit)) (memory (now (code .exit)) (now («data» .exit))) ≡ played chip (now (sheet .entry)) (view c (now (held .entry)) (memory (now (code .entry)) (now («data» .entry)))) .reached .state) ⌝ }
+    ensures { λ r. ⌜ Filled (outcomeText chip (now (sheet .entry)) (played chip (now (sheet .entry)) (view c (now (held .entry)) (memory (now (code .entry)) (now («data» .entry)))))) (now (text .entry)) (r .size) (now (text .exit)) ⌝ }
+    ensures { λ r. ⌜ view (r .core) (now (held .exit)) (memory (now (code .exit)) (now («data» .exit))) ≡ played chip (now (sheet .entry)) (view c (now (held .entry)) (memory (now (code .entry)) (now («data» .entry)))) .reached .state ⌝ }
 {
     let mut reply = [0u8; 16];
     let mut frame = [0u8; 260];

@@ -3,3 +3,4 @@ pub mod Lines
 pub mod Units
 pub mod Numerals
 pub mod Stores
+pub mod NamedChips

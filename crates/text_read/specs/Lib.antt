@@ -1,3 +1,4 @@
 pub mod Bytes
 pub mod Numerals
 pub mod Sheets
+pub mod Chips

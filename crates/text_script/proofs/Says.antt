@@ -7,7 +7,7 @@ use lib.ListN.{length, getD, drop}
 use borrow.Author.Tests.{eq-eqb, ne-eqb, lt-ltb, le-ltb}
 use Rattle.rules.specs.declared.Flash.{Flash}
 use Rattle.rules.specs.declared.Flash.the-variants.{Code, Data}
-use Rattle.rules.specs.Chip.{Memory, same, block, firstByte}
+use Rattle.rules.specs.Chip.{Memory, small, same, block, firstByte}
 use Rattle.rules.specs.Text.{ascii}
 use Rattle.rules.specs.Lines.{between, startsWith, rowBytes}
 use Rattle.chip_finder.specs.LentFlashes.{memory}
@@ -15,9 +15,10 @@ use Rattle.text_read.specs.declared.number.Number.{Number}
 use Rattle.text_read.specs.declared.number.Number.the-variants as number
 use Rattle.text_read.specs.Bytes.{isBytes, Stored, stored}
 use Rattle.text_read.specs.Numerals.{hexOf}
+use Rattle.text_read.specs.Chips.{chipNamed}
 use Rattle.text_script.specs.declared.script_line.Line.{Line}
-use Rattle.text_script.specs.declared.script_line.Line.the-variants.{Bad, Fresh, Store, PowerOn, Bytes, Show, Sheet, Play}
-use Rattle.text_script.specs.Script.{placeOf, placed, storeOf, fieldOf, withOptions, optionsOf, wordOf, rowLine, lineOf}
+use Rattle.text_script.specs.declared.script_line.Line.the-variants.{Bad, OfChip, Store, PowerOn, Bytes, Show, Sheet, Play}
+use Rattle.text_script.specs.Script.{placeOf, placed, storeOf, fieldOf, withOptions, optionsOf, chipOf, wordOf, rowLine, lineOf}
 use Rattle.text_script.specs.Chips.{storedIn}
 
 -- ---- a place in a flash ----
@@ -77,13 +78,18 @@ module _ (t : List ℕ) where
   module _ (a : same t (ascii "!") ≡ false) where
     module _ (b : same t (ascii "?") ≡ false) where
       module _ (c : same t (ascii "play") ≡ false) where
-        pub word-fresh : same t (ascii "fresh") ≡ true → wordOf t ≡ Fresh
+        pub word-fresh : same t (ascii "fresh") ≡ true → wordOf t ≡ OfChip small
         unfolding wordOf
         word-fresh e = rw (a, b, c, e)
 
-        pub word-none : same t (ascii "fresh") ≡ false → wordOf t ≡ Bad
-        unfolding wordOf
-        word-none e = rw (a, b, c, e)
+        module _ (d : same t (ascii "fresh") ≡ false) where
+          pub word-chip : startsWith (ascii "chip ") t ≡ true → wordOf t ≡ chipOf (chipNamed (drop 5 t))
+          unfolding wordOf
+          word-chip e = rw (a, b, c, d, e)
+
+          pub word-none : startsWith (ascii "chip ") t ≡ false → wordOf t ≡ Bad
+          unfolding wordOf
+          word-none e = rw (a, b, c, d, e)
 
       pub word-play : same t (ascii "play") ≡ true → wordOf t ≡ Play
       unfolding wordOf

@@ -6,15 +6,18 @@ use lib.Dec.{eqb, ltb}
 use lib.ListN.{length, getD, drop}
 use Rattle.rules.specs.declared.Flash.{Flash}
 use Rattle.rules.specs.declared.Flash.the-variants.{Code, Data}
-use Rattle.rules.specs.Chip.{same, block, firstByte}
+use Rattle.rules.specs.Chip.{small, same, block, firstByte}
 use Rattle.rules.specs.Text.{ascii}
 use Rattle.rules.specs.Lines.{between, startsWith, rowBytes}
 use Rattle.text_read.specs.declared.number.Number.{Number}
 use Rattle.text_read.specs.declared.number.Number.the-variants as number
 use Rattle.text_read.specs.Bytes.{isBytes}
 use Rattle.text_read.specs.Numerals.{hexOf}
+use Rattle.text_read.specs.declared.chips.Named.{Named}
+use Rattle.text_read.specs.declared.chips.Named.the-variants.{Is, None}
+use Rattle.text_read.specs.Chips.{chipNamed}
 use Rattle.text_script.specs.declared.script_line.Line.{Line}
-use Rattle.text_script.specs.declared.script_line.Line.the-variants.{Bad, Fresh, Stored, Store, PowerOn, Bytes, Show, Sheet, Play}
+use Rattle.text_script.specs.declared.script_line.Line.the-variants.{Bad, OfChip, Stored, Store, PowerOn, Bytes, Show, Sheet, Play}
 
 -- ---- `code AAAAA HH ..`, `data AAAAA HH ..` ----
 
@@ -54,13 +57,26 @@ unfoldable pub optionsOf : List ℕ → Line
 optionsOf t =
     cond (eqb (length t) 23) (withOptions (fieldOf 7 2 t) (fieldOf 10 2 t) (fieldOf 13 4 t) (fieldOf 18 4 t)) Bad
 
+-- ---- `chip small`, `chip large`, `chip C D` ----
+
+abbrev pub chipOf : Named → Line
+chipOf (Is k) = OfChip k
+chipOf None = Bad
+
 -- ---- a line ----
 
+-- `fresh` is `chip small`
 unfoldable pub wordOf : List ℕ → Line
 wordOf t =
     cond (same t (ascii "!"))
     PowerOn
-    (cond (same t (ascii "?")) Show (cond (same t (ascii "play")) Play (cond (same t (ascii "fresh")) Fresh Bad)))
+    (cond (same t (ascii "?"))
+    Show
+    (cond (same t (ascii "play"))
+    Play
+    (cond (same t (ascii "fresh"))
+    (OfChip small)
+    (cond (startsWith (ascii "chip ") t) (chipOf (chipNamed (drop 5 t))) Bad))))
 
 -- a line that says this, if its row has at least one byte
 unfoldable pub rowLine : Line → List ℕ → Line

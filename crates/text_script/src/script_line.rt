@@ -1,7 +1,10 @@
 // What a line of the script says.
 use rules::Block;
+use rules::Chip;
 use rules::Flash;
 use rules::Options;
+use text_read::chips;
+use text_read::chips::Named;
 use text_read::in_hand;
 use text_read::number;
 use text_read::number::Number;
@@ -10,12 +13,13 @@ use text_read::part::starts_with;
 use text_read::rows;
 ghost use mathlib.Core.Path.{_≡_};
 ghost use lib.ListN.{drop};
-ghost use Rattle.text_script.specs.Script.{placeOf, storeOf, fieldOf, withOptions, optionsOf, wordOf, rowLine, lineOf};
+ghost use Rattle.text_read.specs.Chips.{chipNamed};
+ghost use Rattle.text_script.specs.Script.{placeOf, storeOf, fieldOf, withOptions, optionsOf, chipOf, wordOf, rowLine, lineOf};
 ghost use Rattle.text_script.specs.declared.script_line.Line.the-variants.{Bytes, Sheet};
 
 pub enum Line {
     Bad,
-    Fresh,
+    OfChip(Chip),
     Stored(Options),
     Store(Flash, usize),
     PowerOn,
@@ -115,7 +119,17 @@ fn options_line(text: &[u8]) -> Line
     with_options(sf1, sf2, sws, swe)
 }
 
-// A line of one word.
+// `chip small`, `chip large`, `chip C D`
+fn chip_line(text: &[u8]) -> Line
+    ensures { λ r. ⌜ r ≡ chipOf (chipNamed (drop 5 (now (text .entry)))) ⌝ }
+{
+    match chips::chip(part::rest(text, 5)) {
+        Named::Is(chip) => Line::OfChip(chip),
+        Named::None => Line::Bad,
+    }
+}
+
+// A line of one word, or one that names a chip.
 fn word(text: &[u8]) -> Line
     ensures { λ r. ⌜ r ≡ wordOf (now (text .entry)) ⌝ }
 {
@@ -129,7 +143,10 @@ fn word(text: &[u8]) -> Line
         return Line::Play;
     }
     if octets::same_bytes(text, b"fresh") {
-        return Line::Fresh;
+        return Line::OfChip(chip_finder::small());
+    }
+    if starts_with(text, b"chip ") {
+        return chip_line(text);
     }
     Line::Bad
 }

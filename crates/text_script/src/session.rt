@@ -1,4 +1,5 @@
 // The chip between two lines, and what the lines do to it.
+use rules::Call;
 use rules::Chip;
 use rules::Flash;
 use rules::Options;
@@ -8,7 +9,7 @@ use standin::call::Device;
 use standin_state::resting::at_rest;
 use text_read::rows;
 ghost use mathlib.Core.Path.{_≡_};
-ghost use mathlib.Core.Bool.{true, false};
+ghost use mathlib.Core.Bool.{false};
 ghost use lib.ListN.{length, replicate};
 ghost use Rattle.rules.specs.declared.Phase.the-variants.{Silent};
 ghost use Rattle.rules.specs.declared.Task.the-variants.{Idle};
@@ -18,7 +19,7 @@ ghost use Rattle.rules.specs.Options.{freshOptions};
 ghost use Rattle.rules.specs.StandIn.{rest, powerOn};
 ghost use Rattle.chip_finder.specs.LentFlashes.{memory};
 ghost use Rattle.standin.specs.Shows.{shows};
-ghost use Rattle.text_script.specs.Chips.{storedIn};
+ghost use Rattle.text_script.specs.Chips.{storedIn, refusedCall, onAfter, powered};
 
 // Its record, and whether its power is on. With the power off the record is Silent; its options are those stored.
 pub struct Session {
@@ -53,19 +54,39 @@ pub fn off(s: Session, o: Options) -> Session
     }
 }
 
-// Power-on, with options and flash as they stand.
-pub fn power_on(s: Session, code: &[u8], data: &[u8]) -> Session
-    ensures { λ r. ⌜ (r .on ≡ true) × (r .device .chip ≡ s .device .chip) ⌝ }
-    ensures { λ r. ⌜ shows (r .device) (memory (now (code .entry)) (now («data» .entry))) ≡ powerOn (s .device .chip) (shows (s .device) (memory (now (code .entry)) (now («data» .entry)))) (s .device .core .options) (memory (now (code .entry)) (now («data» .entry))) .state ⌝ }
+// The session after a power-on, and what that answered.
+pub struct Powered {
+    pub session: Session,
+    pub call: Call,
+}
+
+fn is_refused(call: Call) -> bool
+    ensures { λ r. ⌜ r ≡ refusedCall call ⌝ }
+{
+    match call {
+        Call::Refused(_) => true,
+        Call::Answer(_) => false,
+    }
+}
+
+// Power-on, with options and flash as they stand; refused, all stands.
+pub fn power_on(s: Session, code: &[u8], data: &[u8]) -> Powered
+    ensures { λ r. ⌜ (r .session .device .chip ≡ s .device .chip) × (r .session .on ≡ onAfter (r .call) (s .on)) ⌝ }
+    ensures { λ r. ⌜ powered (shows (r .session .device) (memory (now (code .entry)) (now («data» .entry)))) (r .call) ≡ powerOn (s .device .chip) (shows (s .device) (memory (now (code .entry)) (now («data» .entry)))) (s .device .core .options) (memory (now (code .entry)) (now («data» .entry))) ⌝ }
 {
     let d = s.device;
     let c = d.core;
     let o = c.options;
-    let powered = standin::call::power_on(d, o, code, data);
-    let after = powered.device;
-    Session {
-        on: true,
-        device: after,
+    let answered = standin::call::power_on(d, o, code, data);
+    let call = answered.call;
+    let after = answered.device;
+    let mut on = true;
+    if is_refused(call) {
+        on = s.on;
+    }
+    Powered {
+        session: Session { on, device: after },
+        call,
     }
 }
 

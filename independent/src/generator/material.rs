@@ -2,7 +2,7 @@
 //! and their faults.
 
 use super::random::Random;
-use crate::chip::{Area, CONNECTION_ID, Flash, PAGE, Span};
+use crate::chip::{Area, CONNECTION_ID, Flash, Model, PAGE, Span};
 use crate::frames::address_bytes;
 use crate::lines::{byte_line, flash_line};
 use crate::meaning::meaning;
@@ -10,8 +10,49 @@ use crate::options::{self, Options};
 use crate::sheet::{COUNT_LENGTH, ENTRY_LENGTH, Kind, MOST_BYTES, MOST_STEPS, Sheet, Step};
 use crate::status;
 
+/// One of the two chips.
+pub fn random_model(random: &mut Random) -> Model {
+    if random.chance(55) { Model::SMALL } else { Model::LARGE }
+}
+
+/// Block counts of neither chip: near the two, the two mixed, or any.
+pub fn other_model(random: &mut Random) -> Model {
+    loop {
+        let (code_blocks, data_blocks) = match random.below(3) {
+            0 => random.pick(&[(16, 32), (64, 8), (8, 16), (32, 64), (8, 8), (16, 16), (64, 64)]),
+            1 => {
+                let near = [0, 7, 8, 9, 15, 16, 17, 31, 32, 33, 63, 64, 65, 255];
+                (random.pick(&near), random.pick(&near))
+            }
+            _ => (random.below(256), random.below(256)),
+        };
+        let model = Model { code_blocks, data_blocks };
+        if model.check().is_err() {
+            return model;
+        }
+    }
+}
+
+/// A `chip` line, with the counts or, where there is one, with the name.
+pub fn chip_line(random: &mut Random, model: Model) -> String {
+    match model {
+        Model::SMALL if random.chance(60) => String::from("chip small\n"),
+        Model::LARGE if random.chance(60) => String::from("chip large\n"),
+        Model { code_blocks, data_blocks } => format!("chip {code_blocks} {data_blocks}\n"),
+    }
+}
+
+/// A line that takes a fresh chip, of either kind.
+pub fn fresh_line(random: &mut Random) -> String {
+    match random_model(random) {
+        Model::SMALL if random.chance(50) => String::from("fresh\n"),
+        model => chip_line(random, model),
+    }
+}
+
 /// What a chip holds before its power-on.
 pub struct Preparation {
+    model: Model,
     pub options: Option<Options>,
     pub patches: Vec<Patch>,
 }
@@ -23,7 +64,7 @@ pub struct Patch {
 }
 
 impl Preparation {
-    pub fn random(random: &mut Random) -> Preparation {
+    pub fn random(random: &mut Random, model: Model) -> Preparation {
         let options = random.chance(70).then(|| random_options(random));
         let asks_for_id = options.is_some_and(|options| !options.sf2_has(options::IDEN));
         let mut patches = Vec::new();
@@ -33,10 +74,10 @@ impl Preparation {
         }
         if random.chance(60) {
             for _ in 0..random.between(1, 4) {
-                patches.push(random_patch(random));
+                patches.push(random_patch(random, model));
             }
         }
-        Preparation { options, patches }
+        Preparation { model, options, patches }
     }
 
     pub fn lines(&self) -> String {
@@ -52,7 +93,7 @@ impl Preparation {
 
     /// A chip's contents after this preparation.
     pub fn contents(&self) -> (Flash, Options) {
-        let mut flash = Flash::blank();
+        let mut flash = Flash::blank(self.model);
         for patch in &self.patches {
             flash
                 .store(patch.area, patch.address, &patch.bytes)
@@ -95,7 +136,7 @@ pub fn random_options(random: &mut Random) -> Options {
     }
     if random.chance(60) {
         let start = random_window_block(random);
-        let end = if random.chance(25) { start } else { random_window_block(random) };
+        let end = if random.chance(35) { start } else { random_window_block(random) };
         options.sws = (options.sws & !options::WINDOW_BLOCK) | start;
         options.swe = (options.swe & !options::WINDOW_BLOCK) | end;
     }
@@ -105,20 +146,21 @@ pub fn random_options(random: &mut Random) -> Options {
 fn random_window_block(random: &mut Random) -> u16 {
     match random.below(3) {
         0 => random.below(16) as u16,
-        1 => random.pick(&[0, 15, 16, 255, 256, 511]),
+        1 => random.pick(&[0, 0, 0, 15, 16, 63, 64, 255, 256, 511]),
         _ => random.below(512) as u16,
     }
 }
 
-fn random_patch(random: &mut Random) -> Patch {
+fn random_patch(random: &mut Random, model: Model) -> Patch {
     let area = random_area(random);
-    let pages = area.length() / PAGE;
+    let length = model.length(area);
+    let pages = length / PAGE;
     let (start, bytes) = match random.below(4) {
         // The first or last byte of a page, often at an edge of some kind.
         0 => {
             let edges: &[usize] = match area {
-                Area::Code => &[0, 7, 8, 63, 64, 127],
-                Area::Data => &[0, 1, 2, 7],
+                Area::Code => &[0, 7, 8, 63, 64, pages - 1],
+                Area::Data => &[0, 1, 2, 7, pages - 1],
             };
             let page = if random.chance(60) { random.pick(edges) } else { random.below(pages) };
             (page * PAGE + random.pick(&[0, PAGE - 1]), vec![random.pick(&[0x00, 0xFE, 0x7F])])
@@ -127,7 +169,7 @@ fn random_patch(random: &mut Random) -> Patch {
         2 => (random.below(pages) * PAGE, vec![random.byte(); PAGE]),
         _ => {
             let count = random.between(1, 40);
-            (random.below(area.length() - count), random.bytes(count))
+            (random.below(length - count), random.bytes(count))
         }
     };
     Patch { area, address: area.first_address() + start as u32, bytes }
@@ -138,10 +180,11 @@ pub fn random_area(random: &mut Random) -> Area {
 }
 
 /// One or more blocks of a flash, mostly few.
-pub fn random_span(random: &mut Random, area: Area, most_blocks: usize) -> Span {
-    let blocks = Span::whole(area).blocks();
+pub fn random_span(random: &mut Random, model: Model, area: Area, most_blocks: usize) -> Span {
+    let blocks = model.blocks(area);
     let first = match area {
-        Area::Code if random.chance(50) => random.pick(&[0, 6, 7, 8, 15]),
+        Area::Code if random.chance(50) => random.pick(&[0, 6, 7, 8, 15, blocks - 1]),
+        Area::Data if random.chance(20) => random.pick(&[0, 7, blocks - 1]),
         _ => random.below(blocks),
     };
     let room = (blocks - first).min(most_blocks);
@@ -150,13 +193,15 @@ pub fn random_span(random: &mut Random, area: Area, most_blocks: usize) -> Span 
     Span { area, start: first * length, length: count * length }
 }
 
-/// A pair of addresses that is not valid.
-pub fn bad_pair(random: &mut Random) -> (u32, u32) {
+/// A pair of addresses that is not valid for a chip.
+pub fn bad_pair(random: &mut Random, model: Model) -> (u32, u32) {
+    let past = |area: Area| area.first_address() + model.length(area) as u32;
+    let (past_code, past_data) = (past(Area::Code), past(Area::Data));
     loop {
         let area = random_area(random);
-        let span = random_span(random, area, 3);
+        let span = random_span(random, model, area, 3);
         let (sad, ead) = (span.first_address(), span.last_address());
-        let pair = match random.below(10) {
+        let pair = match random.below(12) {
             0 => (sad + 1, ead),
             1 => (sad, ead - 1),
             2 => (sad, ead + 1),
@@ -165,12 +210,25 @@ pub fn bad_pair(random: &mut Random) -> (u32, u32) {
             4 => (sad + PAGE as u32, ead),
             5 => (sad, ead - PAGE as u32),
             // From one flash into the other.
-            6 => (random.pick(&[0x00000, 0x00800, 0x07800]), random.pick(&[0xF10FF, 0xF17FF])),
-            7 => (random.pick(&[0x08000, 0xF0800, 0xF1800, 0xFF800]), ead + 0x800),
-            8 => (sad, ead + random.pick(&[0x8000, 0x10_0000, 0x80_0000])),
+            6 => {
+                let starts = [0x00000, 0x00800, past_code - 0x800];
+                (random.pick(&starts), random.pick(&[0xF10FF, past_data - 1]))
+            }
+            7 => (random.pick(&[past_code, 0xF0800, past_data, 0xFF800]), ead + 0x800),
+            8 => (sad, ead + random.pick(&[past_code, 0x10_0000, 0x80_0000])),
+            // The first block that is not there, alone and with the last one.
+            9 => {
+                let (past, length) = (past(area), area.block_length() as u32);
+                (random.pick(&[past - length, past]), past + length - 1)
+            }
+            // Well for the large chip.
+            10 => {
+                let span = random_span(random, Model::LARGE, area, 3);
+                (span.first_address(), span.last_address())
+            }
             _ => (random.below(1 << 24) as u32, random.below(1 << 24) as u32),
         };
-        if Span::of_pair(pair.0, pair.1).is_none() && pair.0.max(pair.1) < 1 << 24 {
+        if model.pair(pair.0, pair.1).is_none() && pair.0.max(pair.1) < 1 << 24 {
             return pair;
         }
     }
@@ -203,6 +261,7 @@ pub fn change_byte(random: &mut Random, bytes: &mut [u8]) {
 /// A sheet before it is written down.
 #[derive(Clone)]
 pub struct Plan {
+    pub model: Model,
     pub steps: Vec<PlannedStep>,
 }
 
@@ -228,7 +287,7 @@ impl Plan {
     /// match, up to some step.
     pub fn random(random: &mut Random, flash: &Flash, options: &Options, size: Size) -> Plan {
         let mut flash = flash.clone();
-        let mut plan = Plan { steps: Vec::new() };
+        let mut plan = Plan { model: flash.model(), steps: Vec::new() };
         let mut body_bytes = 0;
         let wanted = if random.chance(4) { 0 } else { random.between(1, size.steps) };
         let tolerance = random.pick(&[5, 50, 100, 100]);
@@ -264,7 +323,7 @@ impl Plan {
                     Area::Code if kind.has_body() => size.code_blocks,
                     _ => 16,
                 };
-                random_span(random, area, most)
+                random_span(random, self.model, area, most)
             }
         };
         PlannedStep::random(random, kind, span, flash)
@@ -297,7 +356,7 @@ impl Plan {
         faults.sort();
         let mut bytes = self.bytes();
         for fault in faults {
-            fault.put_in(random, &mut bytes, self.steps.len());
+            fault.put_in(random, &mut bytes, self.steps.len(), self.model);
         }
         bytes
     }
@@ -363,7 +422,7 @@ impl Fault {
     ];
 
     /// Changes a sheet of `count` entries. At least one byte stays.
-    fn put_in(self, random: &mut Random, bytes: &mut Vec<u8>, count: usize) {
+    fn put_in(self, random: &mut Random, bytes: &mut Vec<u8>, count: usize, model: Model) {
         let table_end = COUNT_LENGTH + ENTRY_LENGTH * count;
         if count == 0 && matches!(self, Fault::J4 | Fault::J5 | Fault::J6 | Fault::J7) {
             return;
@@ -373,7 +432,7 @@ impl Fault {
             Fault::J4 => bytes[entry] = random.pick(&[0, 5, 6, 0x81, 0xFF]),
             Fault::J5 => bytes[entry + 7] = random.pick(&[1, 0x80, 0xFF]),
             Fault::J6 => {
-                let (sad, ead) = bad_pair(random);
+                let (sad, ead) = bad_pair(random, model);
                 bytes[entry + 1..entry + 4].copy_from_slice(&address_bytes(sad));
                 bytes[entry + 4..entry + 7].copy_from_slice(&address_bytes(ead));
             }

@@ -1,10 +1,13 @@
 //! Plays for the player by itself: sheets, replies, changes in the middle.
 
 use super::Tape;
-use super::material::{Plan, PlannedStep, Size, random_area, random_span, sheet_lines};
+use super::material::{
+    Plan, PlannedStep, Size, chip_line, other_model, random_area, random_model, random_span,
+    sheet_lines,
+};
 use super::random::Random;
 use crate::calls::Calls;
-use crate::chip::{Area, Flash};
+use crate::chip::{Area, Flash, Model};
 use crate::frames;
 use crate::lines::byte_line;
 use crate::options::Options;
@@ -16,7 +19,10 @@ pub fn generate(seed: u64, count: u64) -> String {
     let mut tape = Tape::new(Calls::new());
     for case in 0..count {
         let mut random = Random::for_case(seed, case);
-        let plan = random_plan(&mut random);
+        // The first play shows what is lent, and which chip is meant, when no
+        // line says so.
+        let model = if case == 0 { Model::SMALL } else { random_model(&mut random) };
+        let plan = random_plan(&mut random, model);
         let wrong_percent = random.pick(&[0, 4, 8, 12, 25]);
         let busy_percent = random.pick(&[0, 5, 12, 25]);
         Play { tape: &mut tape, random, plan, wrong_percent, busy_percent }.write(case == 0);
@@ -24,10 +30,10 @@ pub fn generate(seed: u64, count: u64) -> String {
     tape.text
 }
 
-fn random_plan(random: &mut Random) -> Plan {
+fn random_plan(random: &mut Random, model: Model) -> Plan {
     let (steps, body_bytes) = random.pick(&[(4, 800), (6, 1_300), (6, 1_300), (5, 2_600)]);
     let size = Size { steps, code_blocks: 1, body_bytes };
-    Plan::random(random, &Flash::blank(), &Options::FRESH, size)
+    Plan::random(random, &Flash::blank(model), &Options::FRESH, size)
 }
 
 struct Play<'a> {
@@ -43,8 +49,8 @@ struct Play<'a> {
 
 impl Play<'_> {
     fn write(&mut self, is_first: bool) {
-        // The first play shows what is lent when no line says so.
         if !is_first {
+            self.take_chip(self.plan.model);
             self.lend_at_start();
         }
         let bytes = if self.random.chance(6) {
@@ -76,6 +82,11 @@ impl Play<'_> {
         }
     }
 
+    fn take_chip(&mut self, model: Model) {
+        let line = chip_line(&mut self.random, model);
+        self.tape.line(&line);
+    }
+
     fn lend_at_start(&mut self) {
         // A list that stays keeps the entries of the play before.
         if self.random.chance(50) {
@@ -102,13 +113,20 @@ impl Play<'_> {
         if self.random.one_in(40) {
             // The line between cuts this part off from the sheet.
             self.tape.line("sheet 01 00");
-            self.tape.line("room 260");
+            if self.random.chance(50) {
+                self.tape.line("room 260");
+            } else {
+                self.take_chip(self.tape.runner.model());
+            }
         }
         self.tape.lines(&text);
     }
 
     /// Lends what the play needs to go on.
     fn mend(&mut self) {
+        if self.tape.runner.model() != self.plan.model {
+            self.take_chip(self.plan.model);
+        }
         let bytes = self.plan.bytes();
         self.put_sheet(&bytes);
         if self.tape.runner.sums_lent() < self.plan.steps.len() {
@@ -140,9 +158,10 @@ impl Play<'_> {
         told
     }
 
-    /// Changes the sheet, the room or the list. A changed plan is given back.
+    /// Changes the sheet, the room, the list or the chip. A changed plan is
+    /// given back.
     fn change_something(&mut self) -> Option<Plan> {
-        match self.random.below(10) {
+        match self.random.below(11) {
             0 => {
                 let room = self.some_room();
                 self.tape.line(&format!("room {room}"));
@@ -158,6 +177,14 @@ impl Play<'_> {
                 self.put_sheet(&bytes);
                 None
             }
+            3 => {
+                let model = match self.random.below(5) {
+                    0 => other_model(&mut self.random),
+                    _ => random_model(&mut self.random),
+                };
+                self.take_chip(model);
+                None
+            }
             _ => {
                 let plan = self.changed_plan();
                 self.put_sheet(&plan.bytes());
@@ -171,7 +198,7 @@ impl Play<'_> {
         let step = self.tape.runner.player().map_or(0, |player| player.steps_finished());
         match self.random.below(8) {
             0 => plan.steps.truncate(self.random.between(step.saturating_sub(1), step + 1)),
-            1 => plan = random_plan(&mut self.random),
+            1 => plan = random_plan(&mut self.random, self.plan.model),
             2 => plan.steps.push(self.random_step(None)),
             // Another kind over the same blocks. Write and verify await the
             // same, but are not the same step.
@@ -212,8 +239,9 @@ impl Play<'_> {
             Area::Code if kind.has_body() => 1,
             _ => 5,
         };
-        let span = random_span(&mut self.random, area, most_blocks);
-        PlannedStep::random(&mut self.random, kind, span, &Flash::blank())
+        let model = self.plan.model;
+        let span = random_span(&mut self.random, model, area, most_blocks);
+        PlannedStep::random(&mut self.random, kind, span, &Flash::blank(model))
     }
 
     fn reply(&mut self) -> String {

@@ -1,12 +1,13 @@
 //! Scripts of frames to the chip: mostly well formed, with single damages.
 
-use super::Tape;
 use super::material::{
-    Preparation, bad_pair, change_byte, random_area, random_body, random_options, random_span,
+    Preparation, bad_pair, change_byte, fresh_line, random_area, random_body, random_options,
+    random_span,
 };
 use super::random::Random;
+use super::{Tape, counts};
 use crate::answers::Answers;
-use crate::chip::Span;
+use crate::chip::{Model, Span};
 use crate::frames::{
     self, COMMAND_START, DATA_START, END, MORE, address_bytes, code, page_frame, sum_of,
 };
@@ -33,9 +34,11 @@ struct Script<'a> {
 
 impl Script<'_> {
     fn write(&mut self) {
-        self.tape.line("fresh");
-        let preparation = Preparation::random(&mut self.random);
-        self.tape.lines(&preparation.lines());
+        if self.random.one_in(25) {
+            counts::write(self.tape, &mut self.random);
+        }
+        self.take_chip();
+        self.prepare();
         let budget = self.random.between(100, 1_700);
         let most_turns = 300;
         for _ in 0..most_turns {
@@ -56,13 +59,28 @@ impl Script<'_> {
         self.tape.runner.chip().phase()
     }
 
+    fn model(&self) -> Model {
+        self.tape.runner.chip().model()
+    }
+
+    fn take_chip(&mut self) {
+        let line = fresh_line(&mut self.random);
+        self.tape.line(&line);
+        self.span = None;
+    }
+
+    fn prepare(&mut self) {
+        let model = self.model();
+        let preparation = Preparation::random(&mut self.random, model);
+        self.tape.lines(&preparation.lines());
+    }
+
     fn turn(&mut self) {
         if self.random.chance(4) {
             self.tape.line("?");
         }
         if self.random.chance(2) {
-            let preparation = Preparation::random(&mut self.random);
-            self.tape.lines(&preparation.lines());
+            self.prepare();
             if self.random.chance(40) {
                 self.tape.line("?");
             }
@@ -111,7 +129,7 @@ impl Script<'_> {
                 }
                 if self.random.chance(25) {
                     // IFPR may be 0 for good: begin again with other options.
-                    self.tape.line("fresh");
+                    self.take_chip();
                 }
             }
         }
@@ -203,7 +221,7 @@ impl Script<'_> {
 
     fn pair_command(&mut self, code: u8) -> Vec<u8> {
         let (sad, ead) = if self.random.chance(15) {
-            bad_pair(&mut self.random)
+            bad_pair(&mut self.random, self.tape.runner.chip().model())
         } else {
             let span = self.some_span(3);
             (span.first_address(), span.last_address())
@@ -219,7 +237,8 @@ impl Script<'_> {
             return span;
         }
         let area = random_area(&mut self.random);
-        let span = random_span(&mut self.random, area, most_blocks);
+        let model = self.model();
+        let span = random_span(&mut self.random, model, area, most_blocks);
         self.span = Some(span);
         span
     }
@@ -229,7 +248,9 @@ impl Script<'_> {
         let sad = match self.random.below(20) {
             0 => block.first_address() + 1,
             1 => block.last_address(),
-            2 => self.random.pick(&[0x00100, 0x07F00, 0x08000, 0xF0F00, 0xF1800, 0x80_0000]),
+            2 => self.random.pick(&[0x00100, 0x07F00, 0xF0F00, 0xFF800, 0x80_0000]),
+            // The first block that one of the chips does not have.
+            3 => self.random.pick(&[0x08000, 0xF1800, 0x20000, 0xF3000]),
             _ => block.first_address(),
         };
         frames::command(code::ERASE, &address_bytes(sad))

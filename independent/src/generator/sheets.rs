@@ -1,13 +1,16 @@
 //! Sheets played to the chip: good and refused, on fresh and prepared chips.
 
-use super::Tape;
-use super::material::{Plan, Preparation, Size, huge_sheet, random_span, sheet_lines};
+use super::material::{
+    Plan, Preparation, Size, fresh_line, huge_sheet, random_model, random_span, sheet_lines,
+};
 use super::random::Random;
+use super::{Tape, counts};
 use crate::answers::Answers;
-use crate::chip::Area;
+use crate::chip::{Area, Flash};
 use crate::frames::{self, code};
 use crate::joined::bring_up_bytes;
 use crate::lines::byte_line;
+use crate::options::Options;
 use crate::standin::Phase;
 
 pub fn generate(seed: u64, count: u64) -> String {
@@ -30,9 +33,14 @@ struct Case<'a> {
 
 impl Case<'_> {
     fn write(&mut self) {
-        self.tape.line("fresh");
+        if self.random.one_in(40) {
+            counts::write(self.tape, &mut self.random);
+        }
+        let line = fresh_line(&mut self.random);
+        self.tape.line(&line);
         if self.random.chance(75) {
-            let preparation = Preparation::random(&mut self.random);
+            let model = self.tape.runner.chip().model();
+            let preparation = Preparation::random(&mut self.random, model);
             self.tape.lines(&preparation.lines());
         }
         if self.random.chance(90) {
@@ -96,7 +104,8 @@ impl Case<'_> {
             // A command that awaits data.
             6 => {
                 self.bring_up();
-                let span = random_span(&mut self.random, Area::Data, 2);
+                let model = self.tape.runner.chip().model();
+                let span = random_span(&mut self.random, model, Area::Data, 2);
                 let code = self.random.pick(&[code::PROGRAM, code::VERIFY]);
                 self.send(&frames::pair_command(code, span));
             }
@@ -108,7 +117,7 @@ impl Case<'_> {
     }
 
     fn sheet(&mut self) {
-        let bytes = if self.random.one_in(300) {
+        let bytes = if self.tape.has_room() && self.random.one_in(300) {
             huge_sheet(&mut self.random)
         } else {
             let plan = self.plan();
@@ -125,13 +134,18 @@ impl Case<'_> {
 
     fn plan(&mut self) -> Plan {
         let size = match self.random.below(160) {
-            0 => Size { steps: 6, code_blocks: 16, body_bytes: 60_000 },
-            1..5 => Size { steps: 64, code_blocks: 1, body_bytes: 4_000 },
+            0 if self.tape.has_room() => Size { steps: 6, code_blocks: 16, body_bytes: 60_000 },
+            0..5 => Size { steps: 64, code_blocks: 1, body_bytes: 4_000 },
             5..15 => Size { steps: 8, code_blocks: 2, body_bytes: 8_000 },
             15..40 => Size { steps: 5, code_blocks: 1, body_bytes: 2_600 },
             _ => Size { steps: 6, code_blocks: 1, body_bytes: 1_300 },
         };
         let chip = self.tape.runner.chip();
+        if self.random.chance(6) {
+            // For any chip, often another than the one it is played to.
+            let flash = Flash::blank(random_model(&mut self.random));
+            return Plan::random(&mut self.random, &flash, &Options::FRESH, size);
+        }
         Plan::random(&mut self.random, &chip.flash, &chip.options, size)
     }
 }

@@ -3,7 +3,7 @@ use mathlib.Core.Path.{refl, sym, ap, _∙_}
 use borrow.Author.Tests.{not-true, not-false}
 use Rattle.rules.specs.Run.{Joined}
 use Rattle.joined.specs.Rigs.{rigged}
-use Rattle.joined.specs.Plays.{outcome}
+use Rattle.joined.specs.Plays.{answerNumber, outcome, Outcome}
 use Rattle.joined.specs.declared.Answer.the-variants.{Played}
 use Rattle.joined.proofs.Calls.{step-refused, step-not-begun, step-busy, step-played, starts}
 use borrow.Author.Needs.{needs}
@@ -20,14 +20,16 @@ returns : tie.Need-returns
 returns c =
     let r = c .before .before .before in
     let s = r .before .before .before .before .before .before .before in
-    ((λ z. sym (step-refused (s .args .chip) (s .args .sheet .now) (start r) _ (sym (r .refusal .ensures) ∙ c .before .refusal2 .given .1))), λ n. refl)
+    let o = sym (step-refused (s .args .chip) (s .args .sheet .now) (start r) _ (sym (r .refusal .ensures) ∙ c .before .refusal2 .given .1)) in
+    (o, (ap (λ (x : Outcome). answerNumber (x .answer)) o, λ n. refl))
 
 returns-2 : tie.Need-returns-2
 returns-2 c =
     let e = c .before .before in
     let r = e .before .before in
     let s = r .before .before .before .before .before .before .before in
-    ((λ z. sym (step-not-begun (s .args .chip) (s .args .sheet .now) (start r) (sym (r .refusal .ensures) ∙ e .enum-told .given .1) (sym (c .before .starts-step .ensures) ∙ not-true _ (c .if1 .taken)))), λ n. refl)
+    let o = sym (step-not-begun (s .args .chip) (s .args .sheet .now) (start r) (sym (r .refusal .ensures) ∙ e .enum-told .given .1) (sym (c .before .starts-step .ensures) ∙ not-true _ (c .if1 .taken))) in
+    (o, (ap (λ (x : Outcome). answerNumber (x .answer)) o, λ n. refl))
 
 returns-3 : tie.Need-returns-3
 returns-3 c =
@@ -35,16 +37,17 @@ returns-3 c =
     let e = i .before .before in
     let r = e .before .before in
     let s = r .before .before .before .before .before .before .before in
-    ((λ z. sym (step-busy (s .args .chip) (s .args .sheet .now) (start r) (sym (r .refusal .ensures) ∙ e .enum-told .given .1) (sym (i .before .starts-step .ensures) ∙ not-false _ (i .if1 .left)) (sym (c .before .waits .ensures _) ∙ not-true _ (c .if2 .taken)))), λ n. refl)
+    let o = sym (step-busy (s .args .chip) (s .args .sheet .now) (start r) (sym (r .refusal .ensures) ∙ e .enum-told .given .1) (sym (i .before .starts-step .ensures) ∙ not-false _ (i .if1 .left)) (sym (c .before .waits .ensures _) ∙ not-true _ (c .if2 .taken))) in
+    (o, (ap (λ (x : Outcome). answerNumber (x .answer)) o, λ n. refl))
 
 step-through-requires : tie.Need-step-through-requires
-step-through-requires c κs z =
+step-through-requires c κs =
     let w = c .before .before .before .before .before .before in
     let i = w .before .before .before in
     let e = i .before .before in
     let r = e .before .before in
     let s = r .before .before .before .before .before .before .before in
-    starts (s .args .chip) (s .args .sheet .now) (start r) z (sym (r .refusal .ensures) ∙ e .enum-told .given .1) (sym (i .before .starts-step .ensures) ∙ not-false _ (i .if1 .left)) (sym (w .before .waits .ensures _) ∙ not-false _ (w .if2 .left))
+    starts (s .args .chip) (s .args .sheet .now) (start r) (sym (r .refusal .ensures) ∙ e .enum-told .given .1) (sym (i .before .starts-step .ensures) ∙ not-false _ (i .if1 .left)) (sym (w .before .waits .ensures _) ∙ not-false _ (w .if2 .left))
 
 returns-4 : tie.Need-returns-4
 returns-4 c =
@@ -53,11 +56,11 @@ returns-4 c =
     let i = w .before .before .before in
     let e = i .before .before in
     let r = e .before .before in
-    let s = r .before .before .before .before .before .before .before in (
-      (λ z. ap (outcome Played) (t .step-through .ensures z)
-          ∙ sym (step-played (s .args .chip) (s .args .sheet .now) (start r) (sym (r .refusal .ensures) ∙ e .enum-told .given .1) (sym (i .before .starts-step .ensures) ∙ not-false _ (i .if1 .left)) (sym (w .before .waits .ensures _) ∙ not-false _ (w .if2 .left)))),
-      λ n. absurd (n refl),
-    )
+    let s = r .before .before .before .before .before .before .before in
+    let o =
+    ap (outcome Played) (t .step-through .ensures)
+    ∙ sym (step-played (s .args .chip) (s .args .sheet .now) (start r) (sym (r .refusal .ensures) ∙ e .enum-told .given .1) (sym (i .before .starts-step .ensures) ∙ not-false _ (i .if1 .left)) (sym (w .before .waits .ensures _) ∙ not-false _ (w .if2 .left))) in
+    (o, (ap (λ (x : Outcome). answerNumber (x .answer)) o, λ n. absurd (n refl)))
 
 pub play-step-spec : {M : Type 1} → statement M
 play-step-spec =

@@ -5,7 +5,6 @@ use native.Mathlib.Omega.{arith}
 use lib.ListN.{length}
 use borrow.Author.Needs.{needs}
 use Rattle.rules.specs.Run.{mostFrames}
-use Rattle.joined_laws.specs.Turns.{Sized}
 use Rattle.joined.specs.Rigs.{rigged}
 use Rattle.joined.specs.Turn.{Rooms}
 use Rattle.joined.proofs.Within.{Within, starting, turnable, ends-here, goes-on}
@@ -14,7 +13,7 @@ use Rattle.joined.proofs.stepping.step_through.Tie as tie
 
 abbrev Inv-loop : tie.InvT-loop
 Inv-loop chip sheet held₀ code₀ data₀ reply₀ frame₀ sums₀ most rig₀ i₀ held code «data» reply frame sums rig i =
-    (Sized chip → Within chip sheet (rigged rig₀ held₀ code₀ data₀ reply₀ frame₀ sums₀) most i (rigged rig held code «data» reply frame sums))
+    (Within chip sheet (rigged rig₀ held₀ code₀ data₀ reply₀ frame₀ sums₀) most i (rigged rig held code «data» reply frame sums))
     × (length code ≡ length code₀)
     × (length «data» ≡ length data₀)
     × (length reply ≡ length reply₀)
@@ -30,12 +29,12 @@ loop-holds c =
     let m = c in
     let s = m .before .before .before .before .before .before .before .before .before in
     let e = m .most-frames .ensures .0 ∙ ap mostFrames (m .before .step-at .ensures) in
-    ((λ z. starting _ _ _ (s .pre z) _ e), refl, refl, refl, refl, refl, m .most-frames .ensures .1)
+    (starting _ _ _ (s .pre) _ e, refl, refl, refl, refl, refl, m .most-frames .ensures .1)
 
 turn-requires : tie.Need-turn-requires Inv-loop μ-loop
-turn-requires c κs z =
+turn-requires c κs =
     let l = c .before .before .before .before .before .before .before .loop in
-    turnable _ _ _ _ _ _ (l .inv .0 z)
+    turnable _ _ _ _ _ _ (l .inv .0)
 
 -- the lent buffers keep their lengths
 kept-code : (c : tie.After-turn Inv-loop μ-loop) → length (c .turn .last .1 .1 .1 .1 .0) ≡ length (c .before .before .before .before .before .before .before .before .loop .code)
@@ -54,10 +53,10 @@ kept-sums : (c : tie.After-turn Inv-loop μ-loop) → length (c .turn .last .1 .
 kept-sums c = search needs
 
 returns : tie.Need-returns Inv-loop μ-loop
-returns c z =
+returns c =
     let t = c .before .before .before .before .before .before .before .before .before .before .before .before .before in
     let l = t .before .before .before .before .before .before .before .before .loop in
-    ends-here _ _ _ _ _ _ (l .inv .0 z) _ (t .turn .ensures z) (sym (c .before .between .ensures) ∙ c .if1 .taken)
+    ends-here _ _ _ _ _ _ (l .inv .0) _ (t .turn .ensures) (sym (c .before .between .ensures) ∙ c .if1 .taken)
 
 add-i : tie.Need-add-i Inv-loop μ-loop
 add-i c =
@@ -70,14 +69,13 @@ loop-again c =
     let l = t .before .before .before .before .before .before .before .before .loop in
     let v = l .inv in
     let a = t .before .before .before .before .before .before .before .before .before .before .before .before .before .before .before .before .before .before .args in
-    let rooms : Sized (a .chip) → Rooms (a .chip) (a .sheet .now) (rigged (t .turn .result) (t .turn .last .1 .1 .1 .0) (t .turn .last .1 .1 .1 .1 .0) (t .turn .last .1 .1 .1 .1 .1 .0) (t .turn .last .1 .1 .1 .1 .1 .1 .0) (t .turn .last .1 .1 .1 .1 .1 .1 .1 .0) (t .turn .last .1 .1 .1 .1 .1 .1 .1 .1 .0)) =
-    λ z.
+    let rooms : Rooms (a .chip) (a .sheet .now) (rigged (t .turn .result) (t .turn .last .1 .1 .1 .0) (t .turn .last .1 .1 .1 .1 .0) (t .turn .last .1 .1 .1 .1 .1 .0) (t .turn .last .1 .1 .1 .1 .1 .1 .0) (t .turn .last .1 .1 .1 .1 .1 .1 .1 .0) (t .turn .last .1 .1 .1 .1 .1 .1 .1 .1 .0)) =
     record {
-      accepted = rw (kept-sums t) (v .0 z .rooms .accepted);
-      frame = rw (kept-frame t) (v .0 z .rooms .frame);
-      reply = rw (kept-reply t) (v .0 z .rooms .reply);
+      accepted = rw (kept-sums t) (v .0 .rooms .accepted);
+      frame = rw (kept-frame t) (v .0 .rooms .frame);
+      reply = rw (kept-reply t) (v .0 .rooms .reply);
     } in (
-      (λ z. goes-on _ _ _ _ _ _ (v .0 z) _ (t .turn .ensures z) (sym (c .before .between .ensures) ∙ c .if1 .left) (rooms z)),
+      goes-on _ _ _ _ _ _ (v .0) _ (t .turn .ensures) (sym (c .before .between .ensures) ∙ c .if1 .left) rooms,
       kept-code t ∙ v .1,
       kept-data t ∙ v .2,
       kept-reply t ∙ v .3,
@@ -87,9 +85,9 @@ loop-again c =
     )
 
 returns-2 : tie.Need-returns-2 Inv-loop μ-loop
-returns-2 c z =
+returns-2 c =
     let l = c .before .loop in
-    absurd (omega (arith, l .inv .0 z .few, c .loop-test .left))
+    absurd (omega (arith, l .inv .0 .few, c .loop-test .left))
 
 pub step-through-spec : {M : Type 1} → statement M
 step-through-spec =

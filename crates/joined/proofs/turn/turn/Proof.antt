@@ -18,7 +18,7 @@ same-length-4 : tie.Need-same-length-4
 same-length-4 c = kept (c .before .before .before .before .before .before .before .before .before .before .before .before .before .before .before .before .before .before .before .before .before .before .before .before)
 
 returns : tie.Need-returns
-returns c z =
+returns c =
     let f = c .before .before .before .before .before .before .before .before .before .before .before .before .before .before in
     let g = f .before .before .before .before .before .before .before .before .before .before in
     let s = g .before .before .before .before .before .before .before .before .before .before in
@@ -26,7 +26,7 @@ returns c z =
     let x = f .before .before .before .before .before in
     let y = c .before .before .before .before in
     let m = y .before .before in
-    turn-made (a .chip) (a .sheet .now) _ (s .pre z) _ _ _ (g .emit .ensures) _ _ _ _ (f .feed .ensures .0 ∙ ap (fedInto (a .chip) _ (a .reply .now)) (x .first .ensures)) _ (m .size-of .ensures) _ _ (c .before .before .absorb .ensures ∙ ap (λ (r : List ℕ). absorbedIn (a .chip) (a .sheet .now) (g .emit .result .player) r (a .sums .now)) (y .first2 .ensures))
+    turn-made (a .chip) (a .sheet .now) _ (s .pre) _ _ _ (g .emit .ensures) _ _ _ _ (f .feed .ensures .0 ∙ ap (fedInto (a .chip) _ (a .reply .now)) (x .first .ensures)) _ (m .size-of .ensures) _ _ (c .before .before .absorb .ensures ∙ ap (λ (r : List ℕ). absorbedIn (a .chip) (a .sheet .now) (g .emit .result .player) r (a .sums .now)) (y .first2 .ensures))
 
 pub turn-spec : {M : Type 1} → statement M
 turn-spec =

@@ -6,7 +6,7 @@ use Rattle.rules.specs.Player.{newPlayer}
 use Rattle.rules.specs.Run.{Joined}
 use Rattle.joined.specs.Rigs.{rigged}
 use Rattle.joined_checks.specs.Checks.{joinedVerdict}
-use Rattle.joined.specs.Plays.{lengths, sheetPlayed, Given, given}
+use Rattle.joined.specs.Plays.{answerNumber, Given, given, lengths, SheetOutcome, sheetPlayed}
 use Rattle.joined.proofs.Calls.{sheet-refused, sheet-busy, sheet-played, opens}
 use borrow.Author.Needs.{needs}
 use Rattle.joined.proofs.whole.play.Statement.{statement}
@@ -48,7 +48,8 @@ returns c =
     let r = c .before .before .before in
     let n = r .before in
     let s = n .before .before .before .before .before .before .before in
-    ((λ z. sym (sheet-refused (s .args .chip) (s .args .sheet .now) (start n) (s .args .each .now) _ (judged r ∙ c .before .refusal2 .given .1)) ∙ as-called n), ((λ u. stood n), λ u. refl))
+    let o = sym (sheet-refused (s .args .chip) (s .args .sheet .now) (start n) (s .args .each .now) _ (judged r ∙ c .before .refusal2 .given .1)) ∙ as-called n in
+    (o, (ap (λ (x : SheetOutcome). answerNumber (x .answer)) o, ((λ u. stood n), λ u. refl)))
 
 returns-2 : tie.Need-returns-2
 returns-2 c =
@@ -56,16 +57,17 @@ returns-2 c =
     let r = e .before .before in
     let n = r .before in
     let s = n .before .before .before .before .before .before .before in
-    ((λ z. sym (sheet-busy (s .args .chip) (s .args .sheet .now) (start n) (s .args .each .now) (judged r ∙ e .enum-told .given .1) (sym (c .before .waits .ensures _) ∙ not-true _ (c .if1 .taken))) ∙ as-called n), ((λ u. stood n), λ u. refl))
+    let o = sym (sheet-busy (s .args .chip) (s .args .sheet .now) (start n) (s .args .each .now) (judged r ∙ e .enum-told .given .1) (sym (c .before .waits .ensures _) ∙ not-true _ (c .if1 .taken))) ∙ as-called n in
+    (o, (ap (λ (x : SheetOutcome). answerNumber (x .answer)) o, ((λ u. stood n), λ u. refl)))
 
 steps-through-requires : tie.Need-steps-through-requires
-steps-through-requires c κs z =
+steps-through-requires c κs =
     let w = c .before .before .before .before .before .before .before in
     let e = w .before .before .before in
     let r = e .before .before in
     let n = r .before in
     let s = n .before .before .before .before .before .before .before in
-    opens (s .args .chip) (s .args .sheet .now) (start n) z (n .new-player .ensures) (judged r ∙ e .enum-told .given .1) (sym (w .before .waits .ensures _) ∙ not-false _ (w .if1 .left))
+    opens (s .args .chip) (s .args .sheet .now) (start n) (n .new-player .ensures) (judged r ∙ e .enum-told .given .1) (sym (w .before .waits .ensures _) ∙ not-false _ (w .if1 .left))
 
 returns-3 : tie.Need-returns-3
 returns-3 c =
@@ -74,12 +76,12 @@ returns-3 c =
     let e = w .before .before .before in
     let r = e .before .before in
     let n = r .before in
-    let s = n .before .before .before .before .before .before .before in (
-      (λ z. t .steps-through .ensures z
-          ∙ sym (sheet-played (s .args .chip) (s .args .sheet .now) (start n) (s .args .each .now) (judged r ∙ e .enum-told .given .1) (sym (w .before .waits .ensures _) ∙ not-false _ (w .if1 .left)))
-          ∙ as-called n),
-      ((λ u. absurd (u refl)), λ u. absurd (u refl)),
-    )
+    let s = n .before .before .before .before .before .before .before in
+    let o =
+    t .steps-through .ensures
+    ∙ sym (sheet-played (s .args .chip) (s .args .sheet .now) (start n) (s .args .each .now) (judged r ∙ e .enum-told .given .1) (sym (w .before .waits .ensures _) ∙ not-false _ (w .if1 .left)))
+    ∙ as-called n in
+    (o, (ap (λ (x : SheetOutcome). answerNumber (x .answer)) o, ((λ u. absurd (u refl)), λ u. absurd (u refl))))
 
 pub play-spec : {M : Type 1} → statement M
 play-spec =

@@ -1,11 +1,14 @@
--- `sheet::judge::verdict` meets its contract: the sheet's own rules, and the room for its sums after them. Assumes nothing.
+-- `sheet::judge::verdict` meets its contract: a known chip, the sheet's own rules, and the room for its sums after them. Assumes nothing.
 use mathlib.Core.Path.{_≡_, sym, ap, _∙_}
+use mathlib.Core.Bool.{true}
 use native.Mathlib.Omega.{arith}
+use borrow.Author.Tests.{not-true, not-false}
 use Rattle.rules.specs.declared.Verdict.{Verdict}
 use Rattle.rules.specs.declared.Verdict.the-variants.{Accepted}
+use Rattle.rules.specs.Chip.{known}
 use Rattle.rules.specs.Numbers.{verdictNumber}
 use Rattle.rules.specs.Sheet.{sheetVerdict}
-use Rattle.sheet.proofs.Verdicts.{sheet-refused, no-room, room-allowed}
+use Rattle.sheet.proofs.Verdicts.{no-chip, sheet-refused, no-room, room-allowed}
 use borrow.Author.Needs.{needs}
 use Rattle.sheet.proofs.judge.verdict.Statement.{statement}
 use Rattle.sheet.proofs.judge.verdict.Tie as tie
@@ -16,27 +19,39 @@ numbered x y e = (e, ap verdictNumber e)
 
 returns : tie.Need-returns
 returns c =
-    let v = c .before .before .before in
-    let a = v .before .before .args in
-    numbered _ _ (sym (sheet-refused (a .chip) (a .sheet .now) (a .room) _ (sym (v .sheet-verdict .ensures) ∙ c .before .refusal .given .1)))
+    let a = c .before .before .before .args in
+    numbered _ _ (sym (no-chip (a .chip) (a .sheet .now) (a .room) (sym (c .before .is-known .ensures) ∙ not-true _ (c .if1 .taken))))
 
--- the sheet was accepted
-kept : (c : tie.After-enum-told) → let a = c .before .before .before .before .args in sheetVerdict (a .chip) (a .sheet .now) ≡ Accepted
-kept c = sym (c .before .before .sheet-verdict .ensures) ∙ c .enum-told .given .1
+-- the chip is known
+counts : (c : tie.Else1) → known (c .before .before .before .args .chip) ≡ true
+counts c = sym (c .before .is-known .ensures) ∙ not-false _ (c .if1 .left)
 
 returns-2 : tie.Need-returns-2
 returns-2 c =
-    let x = c .before .before in
-    let a = x .before .before .before .before .args in
-    numbered _ _ (sym (no-room (a .chip) (a .sheet .now) (a .room) (kept x) (omega arith)))
+    let v = c .before .before .before in
+    let k = v .before in
+    let a = k .before .before .before .args in
+    numbered _ _ (sym (sheet-refused (a .chip) (a .sheet .now) (a .room) (counts k) _ (sym (v .sheet-verdict .ensures) ∙ c .before .refusal .given .1)))
+
+-- the sheet was accepted
+kept : (c : tie.After-enum-told) → let a = c .before .before .before .before .before .before .args in sheetVerdict (a .chip) (a .sheet .now) ≡ Accepted
+kept c = sym (c .before .before .sheet-verdict .ensures) ∙ c .enum-told .given .1
 
 returns-3 : tie.Need-returns-3
 returns-3 c =
     let x = c .before .before in
-    let a = x .before .before .before .before .args in
-    numbered _ _ (sym (room-allowed (a .chip) (a .sheet .now) (a .room) (kept x) (omega arith)))
+    let k = x .before .before .before in
+    let a = k .before .before .before .args in
+    numbered _ _ (sym (no-room (a .chip) (a .sheet .now) (a .room) (counts k) (kept x) (omega arith)))
+
+returns-4 : tie.Need-returns-4
+returns-4 c =
+    let x = c .before .before in
+    let k = x .before .before .before in
+    let a = k .before .before .before .args in
+    numbered _ _ (sym (room-allowed (a .chip) (a .sheet .now) (a .room) (counts k) (kept x) (omega arith)))
 
 pub verdict-spec : {M : Type 1} → statement M
 verdict-spec =
     tie.close
-    (tie.spec (λ c κs. search needs) (λ c. search needs) returns (λ c. search needs) (λ c κs. search needs) returns-2 returns-3)
+    (tie.spec (λ c κs. search needs) returns (λ c κs. search needs) (λ c. search needs) returns-2 (λ c. search needs) (λ c κs. search needs) returns-3 returns-4)

@@ -11,8 +11,8 @@ returns c =
     let p = c .before .before .before in
     let r = p .before .before .before in
     let q = r .before .before .before .before .before .before .before .before .before .before .before in (
-      (λ z. told-as _ _ _ _ _ _ _ _ _ _ (r .report .ensures .0) (q .play .ensures .0 z) (p .put-outcome .ensures)),
-      (λ z. ap (λ (o : SheetOutcome). o .reached .state) (q .play .ensures .0 z)),
+      told-as _ _ _ _ _ _ _ _ _ _ (r .report .ensures .0) (q .play .ensures .0) (p .put-outcome .ensures),
+      ap (λ (o : SheetOutcome). o .reached .state) (q .play .ensures .0),
     )
 
 pub play-told-spec : {M : Type 1} → statement M

@@ -1,6 +1,7 @@
 -- `text_script::script_line::word` meets its contract. Assumes nothing.
-use mathlib.Core.Path.{sym, _∙_}
-use Rattle.text_script.proofs.Says.{word-on, word-show, word-play, word-fresh, word-none}
+use mathlib.Core.Path.{sym, ap, _∙_}
+use Rattle.text_script.proofs.Says.{word-on, word-show, word-play, word-fresh, word-chip, word-none}
+use Rattle.text_script.specs.declared.script_line.Line.the-variants.{OfChip}
 use borrow.Author.Needs.{needs}
 use Rattle.text_script.proofs.script_line.word.Statement.{statement}
 use Rattle.text_script.proofs.script_line.word.Tie as tie
@@ -47,19 +48,33 @@ same-bytes-requires-4 c κs = search needs
 
 returns-4 : tie.Need-returns-4
 returns-4 c =
-    let s = c .before in
+    let t = c .before in
+    let s = t .before in
     let g = s .before .before in
     let f = g .before .before .before in
     let e = f .before .before .before in
-    sym (word-fresh _ (sym (e .before .same-bytes .ensures) ∙ e .if1 .left) (sym (f .before .same-bytes2 .ensures) ∙ f .if2 .left) (sym (g .before .same-bytes3 .ensures) ∙ g .if3 .left) (sym (s .same-bytes4 .ensures) ∙ c .if4 .taken))
+    ap OfChip (c .small .ensures) ∙ sym (word-fresh _ (sym (e .before .same-bytes .ensures) ∙ e .if1 .left) (sym (f .before .same-bytes2 .ensures) ∙ f .if2 .left) (sym (g .before .same-bytes3 .ensures) ∙ g .if3 .left) (sym (s .same-bytes4 .ensures) ∙ t .if4 .taken))
 
 returns-5 : tie.Need-returns-5
 returns-5 c =
-    let s = c .before in
+    let t = c .before in
+    let w = t .before in
+    let h = w .before .before in
+    let s = h .before in
     let g = s .before .before in
     let f = g .before .before .before in
     let e = f .before .before .before in
-    sym (word-none _ (sym (e .before .same-bytes .ensures) ∙ e .if1 .left) (sym (f .before .same-bytes2 .ensures) ∙ f .if2 .left) (sym (g .before .same-bytes3 .ensures) ∙ g .if3 .left) (sym (s .same-bytes4 .ensures) ∙ c .if4 .left))
+    c .chip-line .ensures ∙ sym (word-chip _ (sym (e .before .same-bytes .ensures) ∙ e .if1 .left) (sym (f .before .same-bytes2 .ensures) ∙ f .if2 .left) (sym (g .before .same-bytes3 .ensures) ∙ g .if3 .left) (sym (s .same-bytes4 .ensures) ∙ h .if4 .left) (sym (w .starts-with .ensures) ∙ t .if5 .taken))
+
+returns-6 : tie.Need-returns-6
+returns-6 c =
+    let w = c .before in
+    let h = w .before .before in
+    let s = h .before in
+    let g = s .before .before in
+    let f = g .before .before .before in
+    let e = f .before .before .before in
+    sym (word-none _ (sym (e .before .same-bytes .ensures) ∙ e .if1 .left) (sym (f .before .same-bytes2 .ensures) ∙ f .if2 .left) (sym (g .before .same-bytes3 .ensures) ∙ g .if3 .left) (sym (s .same-bytes4 .ensures) ∙ h .if4 .left) (sym (w .starts-with .ensures) ∙ c .if5 .left))
 
 pub word-spec : {M : Type 1} → statement M
 word-spec =
@@ -76,5 +91,10 @@ word-spec =
     returns-3
     slice-aggregate-same-bytes-4
     same-bytes-requires-4
+    (λ c κs. search needs)
     returns-4
-    returns-5)
+    (λ c. search needs)
+    (λ c κs. search needs)
+    (λ c κs. search needs)
+    returns-5
+    returns-6)

@@ -1,0 +1,124 @@
+//! The change requests, one part each, with the papers' own numbers.
+
+mod common;
+
+use common::{BRING_UP, answers, run};
+
+/// What a script for a large chip in phase Command writes, without the lines
+/// that bring it there.
+fn on_large(preparation: &str, script: &str) -> String {
+    let text = answers(&format!("chip large\n{preparation}{BRING_UP}{script}"));
+    let (_, told) = text.split_once("< 02 03 06 20 00 D7 03\n").expect("the speed is set");
+    String::from(told)
+}
+
+fn sheet_line(sheet: &[u8]) -> String {
+    let hex: String = sheet.iter().map(|byte| format!(" {byte:02X}")).collect();
+    format!("sheet{hex}\n")
+}
+
+/// A form 1 sheet of one step without a body.
+fn one_step(kind: u8, sad: u32, ead: u32) -> Vec<u8> {
+    let mut sheet = vec![1, 0, kind];
+    sheet.extend(&sad.to_le_bytes()[..3]);
+    sheet.extend(&ead.to_le_bytes()[..3]);
+    sheet.extend([0, 14, 0, 0, 0]);
+    sheet
+}
+
+mod m105_the_larger_receiver {
+    use super::*;
+
+    #[test]
+    fn window_get_shows_the_last_code_block() {
+        assert_eq!(
+            on_large("", "> 01 01 AD 52 03\n"),
+            "> 01 01 AD 52 03\n< 02 01 06 F9 03 02 04 00 80 3F 80 BD 03\n"
+        );
+    }
+
+    #[test]
+    fn blocks_up_to_the_chips_own_last() {
+        // Erase of 1F800h and F2F00h, the last blocks; of 20000h and F3000h.
+        let script = "\
+> 01 04 22 00 F8 01 E1 03
+> 01 04 22 00 2F 0F 9C 03
+> 01 04 22 00 00 02 D8 03
+> 01 04 22 00 30 0F 9B 03
+";
+        let told = on_large("code 1FFFF 00\ndata F2FFF 00\n", &format!("{script}?\n"));
+        let found: Vec<&str> = told.lines().filter(|line| !line.starts_with('>')).collect();
+        let (well, not) = ("< 02 01 06 F9 03", "< 02 01 05 FA 03");
+        let end = ["phase Command", "options FF FF FFFF FFFF"];
+        assert_eq!(found, [well, well, not, not, end[0], end[1]]);
+        let small = answers(&format!("{BRING_UP}{script}"));
+        assert_eq!(small.matches(not).count(), 4);
+    }
+
+    #[test]
+    fn boot_cluster_0_is_blocks_0_to_7_again() {
+        let options = "options FD FF FFFF FFFF\n";
+        let told = on_large(options, "> 01 04 22 00 38 00 A2 03\n> 01 04 22 00 40 00 9A 03\n");
+        let found: Vec<&str> = told.lines().filter(|line| line.starts_with('<')).collect();
+        assert_eq!(found, ["< 02 01 10 EF 03", "< 02 01 06 F9 03"]);
+    }
+
+    #[test]
+    fn names_and_counts() {
+        for (line, expected) in [
+            ("chip small", "0F 80 ED"),
+            ("chip 16 8", "0F 80 ED"),
+            ("fresh", "0F 80 ED"),
+            ("chip large", "3F 80 BD"),
+            ("chip 64 32", "3F 80 BD"),
+        ] {
+            let text = answers(&format!("chip large\n{line}\n{BRING_UP}> 01 01 AD 52 03\n"));
+            assert!(text.ends_with(&format!("02 04 00 80 {expected} 03\n")), "{line}: {text}");
+        }
+        for line in ["chip", "chip 16", "chip 016 8", "chip 256 8", "chip Small", "chip small 8"] {
+            assert_eq!(answers(&format!("{line}\n")), "bad line 1\n");
+        }
+    }
+
+    #[test]
+    fn other_counts() {
+        let sheet = sheet_line(&[0]);
+        let script = format!("chip 16 32\n!\n> 3A\n{sheet}play\n!\n?\nchip small\n!\n?\n");
+        let options = "options FF FF FFFF FFFF\n";
+        assert_eq!(
+            answers(&script),
+            format!(
+                "!\nrefused D0\n> 3A\nrefused D0\n!\nrefused D0\nphase Off\n{options}\
+                 !\nphase Mode\n{options}"
+            )
+        );
+        assert_eq!(answers("chip 64 8\ncode 00000 00\n"), "bad line 2\n");
+        assert_eq!(answers("chip 64 8\ndata F1000 00\n"), "bad line 2\n");
+        assert_eq!(answers("chip 0 0\n!\n"), "!\nrefused D0\n");
+    }
+
+    #[test]
+    fn the_players_chip() {
+        let frames = |script: &str| run(&["frames"], script.as_bytes());
+        let erase = sheet_line(&one_step(1, 0xF1000, 0xF10FF));
+        let frame = "> 01 04 22 00 10 0F BB 03\n";
+        // The sheet in hand and the play stand; D0 comes before every J.
+        let script = format!("{erase}sums 1\ngo\nchip 1 1\n<\nchip small\n< 02 01 06 F9 03\n");
+        let end = "end 06 steps 1 frames 1 pieces 0\nsums 0000\n";
+        assert_eq!(frames(&script), format!("{frame}refused D0\n{end}"));
+        assert_eq!(frames("chip 1 1\nsheet 00\ngo\n"), "refused D0\n");
+        // A `chip` line is another line: the `sheet` line after it begins anew.
+        assert_eq!(frames("sheet 00\nchip small\nsheet 00\ngo\n"), "refused J1\n");
+    }
+
+    #[test]
+    fn the_program_keeps_the_small_one() {
+        assert_eq!(run(&["play"], &one_step(4, 0x08000, 0x087FF)), "refused J6\n");
+        assert_eq!(run(&["play"], &one_step(4, 0xF1800, 0xF18FF)), "refused J6\n");
+    }
+
+    #[test]
+    fn meaning_on_both() {
+        assert_eq!(run(&["meaning-check", "105", "300"], &[]), "ok 300\n");
+    }
+}

@@ -7,7 +7,7 @@ use Rattle.rules.specs.declared.Options.{Options}
 use Rattle.rules.specs.declared.numbers.Number.{Number}
 use Rattle.rules.specs.Chip.{Memory, small, large, freshMemory}
 use Rattle.rules.specs.Options.{freshOptions}
-use Rattle.rules.specs.Rows.{plain, D, J, Exchange, to, Session, Play, noSums, unreached, Lending, blankFlash, ack, opening, session, noBoot, command, one, pair}
+use Rattle.rules.specs.Rows.{plain, D, J, Exchange, to, Session, Play, noSums, unreached, Lending, blankFlash, ack, opening, session, noBoot, command, one, pair, entryIn}
 
 -- ---- what is lent ----
 
@@ -69,29 +69,28 @@ onLarge o xs =
 
 unfoldable pub chipSessions : List Session
 chipSessions =
-    onLarge freshOptions
-    (asked (0x02 ∷ 0x04 ∷ 0x00 ∷ 0x80 ∷ 0x3F ∷ 0x80 ∷ 0xBD ∷ 0x03 ∷ []) ack (ack ++ pair 0x00 0x00) (ack ++ pair 0x00 0x20))
+    -- and with BTPR 0 boot cluster 0 is code blocks 0 to 7 again: its last block, the block behind it, a data block
+    onLarge noBoot
+    ((erase 0x00 0x38 0x00 (one 0x10) ∷ erase 0x00 0x40 0x00 ack ∷ erase 0x00 0x17 0x0F ack ∷ [])
+    ++ asked (0x02 ∷ 0x04 ∷ 0x00 ∷ 0x80 ∷ 0x3F ∷ 0x80 ∷ 0xBD ∷ 0x03 ∷ []) ack (ack ++ pair 0x00 0x00) (ack ++ pair 0x00 0x20))
     ∷ session freshOptions blankFlash
     (asked (0x02 ∷ 0x04 ∷ 0x00 ∷ 0x80 ∷ 0x0F ∷ 0x80 ∷ 0xED ∷ 0x03 ∷ []) (one 0x05) (one 0x05) (one 0x05))
     blankFlash
-    -- boot cluster 0 is code blocks 0 to 7 again
-    ∷ onLarge noBoot
-    (erase 0x00 0x38 0x00 (one 0x10)
-    ∷ erase 0x00 0x40 0x00 ack
-    ∷ erase 0x00 0xF8 0x01 ack
-    ∷ erase 0x00 0x17 0x0F ack
-    ∷ [])
     ∷ []
 
 -- ---- sheets: judged against that chip ----
 
--- the erase of those addresses
-abbrev erasing : ℕ → ℕ → ℕ → ℕ → List ℕ
-erasing from high upto high′ =
-    0x01 ∷ 0x00 ∷ 0x01 ∷ 0x00 ∷ from ∷ high ∷ 0xFF ∷ upto ∷ high′ ∷ 0x00 ∷ 0x0E ∷ 0x00 ∷ 0x00 ∷ 0x00 ∷ []
+-- the erase of the large chip's last code block
+abbrev eraseLast : List ℕ
+eraseLast = 0x01 ∷ 0x00 ∷ entryIn 0x01 1 0xF8 0xFF 14
 
-abbrev judged : Chip → Memory → List ℕ → Number → Options → Number → ℕ → ℕ → Play
-judged k m s said o status steps frames =
+-- three erases: the large chip's last data block; from the last block of boot cluster 0 on; the last code block
+abbrev eraseThree : List ℕ
+eraseThree =
+    0x03 ∷ 0x00 ∷ (entryIn 0x0F 1 0x2F 0x2F 38 ++ entryIn 0x00 1 0x38 0x4F 38 ++ entryIn 0x01 1 0xF8 0xFF 38)
+
+abbrev judged : Chip → Options → Memory → List ℕ → Number → Number → ℕ → ℕ → List ℕ → Play
+judged k o m s said status steps frames each =
     record {
       chip = k;
       options = o;
@@ -103,21 +102,19 @@ judged k m s said o status steps frames =
       frames = frames;
       pieces = 0;
       sums = noSums;
-      each = frames ∷ unreached ∷ unreached ∷ unreached ∷ [];
+      each = each;
       memoryAfter = m;
     }
 
 abbrev refusedBy : Chip → List ℕ → Number → Play
-refusedBy k s said = judged k blankFlash s said freshOptions (plain 0) 0 0
+refusedBy k s said = judged k freshOptions blankFlash s said (plain 0) 0 0 []
 
 unfoldable pub chipSheets : List Play
 chipSheets =
-    -- the last code block of the large chip
-    judged large (freshMemory large) (erasing 0xF8 0x01 0xFF 0x01) (plain 0) freshOptions (plain 0x06) 1 1
-    ∷ refusedBy small (erasing 0xF8 0x01 0xFF 0x01) (J 6)
-    ∷ refusedBy (chip 16 32) (erasing 0xF8 0x01 0xFF 0x01) (D 0)
+    -- with BTPR 0 the last data block is erased, and the last block of boot cluster 0 stops the play
+    judged large noBoot (freshMemory large) eraseThree (plain 0) (plain 0x10) 1 2 (1 ∷ 1 ∷ unreached ∷ unreached ∷ [])
+    ∷ refusedBy small eraseLast (J 6)
+    ∷ refusedBy (chip 16 32) eraseLast (D 0)
     ∷ refusedBy (chip 16 32) (0x00 ∷ []) (D 0)
     ∷ refusedBy large (0x00 ∷ []) (J 1)
-    -- from the last block of boot cluster 0 on, with BTPR 0
-    ∷ judged large (freshMemory large) (erasing 0x38 0x00 0x4F 0x00) (plain 0) noBoot (plain 0x10) 0 1
     ∷ []

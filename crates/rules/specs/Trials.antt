@@ -276,21 +276,21 @@ verifyThree = 0x01 ∷ 0x00 ∷ (entry 3 0x10 0x12 14 ++ filled 0xFF ++ filled 0
 abbrev eraseThree : List ℕ
 eraseThree = 0x01 ∷ 0x00 ∷ entry 1 0x10 0x12 14
 
--- the last code block, its eight pages: written, and compared with blank ones
+-- code block 1, its eight pages: written, and compared with blank ones
 abbrev codePages : List ℕ
 codePages = replicate 256 0xA5 ++ replicate 1536 0x5A ++ replicate 256 0x11
 
 abbrev writeCode : List ℕ
-writeCode = 0x01 ∷ 0x00 ∷ (entryIn 0x00 2 0x78 0x7F 14 ++ codePages)
+writeCode = 0x01 ∷ 0x00 ∷ (entryIn 0x00 2 0x08 0x0F 14 ++ codePages)
 
 abbrev verifyCode : List ℕ
-verifyCode = 0x01 ∷ 0x00 ∷ (entryIn 0x00 3 0x78 0x7F 14 ++ replicate 2048 0xFF)
+verifyCode = 0x01 ∷ 0x00 ∷ (entryIn 0x00 3 0x08 0x0F 14 ++ replicate 2048 0xFF)
 
 abbrev sumOne : List ℕ
 sumOne = 0x01 ∷ 0x00 ∷ entry 4 0x10 0x10 14
 
 abbrev writtenCode : Memory
-writtenCode = record { code = replicate 30720 0xFF ++ codePages; «data» = blankFlash .«data» }
+writtenCode = record { code = replicate 2048 0xFF ++ codePages ++ replicate 28672 0xFF; «data» = blankFlash .«data» }
 
 unfoldable pub sheets : List Play
 sheets =

@@ -98,6 +98,12 @@ further =
     blankFlash
     (to (onePage 0x40) ack ∷ to (page lastEnd 0x17) (pair 0x06 0x06) ∷ [])
     (paged 0 0x17 blankFlash)
+    -- a data frame whose LEN is not 00h, with a right end byte and SUM
+    ∷ session
+    freshOptions
+    blankFlash
+    (to (onePage 0x40) ack ∷ to (frame dataStart lastEnd (0xA5 ∷ [])) (pair 0x15 0x06) ∷ [])
+    blankFlash
     -- a page not blank, alone; a protected page: 10h, told at the last page; then at the page after
     ∷ session
     freshOptions

@@ -246,7 +246,7 @@ static int release(struct device *d, struct lent m, u8 *reply)
     if (!(d->sf1 & SEPR) || !(d->sf1 & BTPR))
         return put_one(reply, 0x10);
     d->sf1 |= SF1_BITS;
-    d->sf2 |= SF2_BITS;
+    d->sf2 |= SF2_BITS & ~IDEN;
     d->sws |= WINDOW_BITS;
     d->swe |= WINDOW_BITS;
     return put_one(reply, 0x06);

@@ -4,6 +4,7 @@ mod counts;
 pub mod material;
 mod plays;
 pub mod random;
+mod releases;
 mod scripts;
 mod sheets;
 

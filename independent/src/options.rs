@@ -81,10 +81,10 @@ impl Options {
         self.sf2 &= sf2 | !SETTABLE_SF2;
     }
 
-    /// Security Release: every option bit becomes 1, stray bits stay.
+    /// Security Release: every option bit but IDEN becomes 1, stray bits stay.
     pub fn release(&mut self) {
         self.sf1 |= SF1_BITS;
-        self.sf2 |= SF2_BITS;
+        self.sf2 |= SF2_BITS & !IDEN;
         self.sws |= SWS_BITS;
         self.swe |= SWE_BITS;
     }

@@ -122,3 +122,28 @@ mod m105_the_larger_receiver {
         assert_eq!(run(&["meaning-check", "105", "300"], &[]), "ok 300\n");
     }
 }
+
+mod m102_id_checking_stays_on {
+    use super::*;
+
+    const RELEASE: &str = "> 01 01 A2 5D 03\n";
+    const ACK: &str = "< 02 01 06 F9 03\n";
+    const ID: &str = "> 01 0B 9C FF FF FF FF FF FF FF FF FF FF 63 03\n";
+
+    #[test]
+    fn release_keeps_iden_0() {
+        let options = "options EE E6 0000 0000\n";
+        let script = format!("{options}{BRING_UP}{ID}{RELEASE}?\n{BRING_UP}?\n");
+        let text = answers(&script);
+        assert!(text.contains(&format!("{ID}{ACK}{RELEASE}{ACK}phase Command\n")), "{text}");
+        assert!(text.contains("options FE FE 81FF 81FF\n"), "{text}");
+        assert!(text.ends_with("phase Ident\noptions FE FE 81FF 81FF\n"), "{text}");
+    }
+
+    #[test]
+    fn release_keeps_iden_1() {
+        let script = format!("options EE E7 0000 0000\n{BRING_UP}{RELEASE}{BRING_UP}?\n");
+        let text = answers(&script);
+        assert!(text.ends_with("phase Command\noptions FE FF 81FF 81FF\n"), "{text}");
+    }
+}

@@ -42,13 +42,13 @@ pub fn security_set(o: Options, sf1: u8, sf2: u8) -> Options
     }
 }
 
-// Every named bit becomes 1: block number 511 is nine of them.
+// Every named bit but IDEN becomes 1, and IDEN stays: an ID once asked for is asked for ever after. Block number 511 is nine of the bits.
 pub fn release(o: Options) -> Options
     ensures { λ r. ⌜ r ≡ release o ⌝ }
 {
     Options {
         sf1: with_bit(with_bit(with_bit(o.sf1, 2, 1), 4, 1), 16, 1),
-        sf2: with_bit(with_bit(with_bit(with_bit(o.sf2, 1, 1), 4, 1), 8, 1), 16, 1),
+        sf2: with_bit(with_bit(with_bit(o.sf2, 4, 1), 8, 1), 16, 1),
         sws: window_word(o.sws, Block(511), 1),
         swe: window_word(o.swe, Block(511), 1),
     }

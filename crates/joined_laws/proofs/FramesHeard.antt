@@ -22,6 +22,7 @@ use Rattle.rules.specs.declared.Pages.{Pages}
 use Rattle.rules.specs.declared.Task.{Task}
 use Rattle.rules.specs.declared.Task.the-variants.{Idle, Programming, Verifying}
 use Rattle.rules.specs.declared.CodeRow.the-variants.{Row}
+use Rattle.rules.specs.declared.Fault.{Fault}
 use Rattle.rules.specs.declared.Fault.the-variants.{Well, Protected}
 use Rattle.rules.specs.Chip.{Memory, addressBytes, blocks, firstByte, lastByte, wordBytes, eraseBlock, bytesFrom, checksum, pageOf, eraseAddress, range}
 use Rattle.rules.specs.Options.{eraseProtected}
@@ -156,10 +157,10 @@ module _ (chip : Chip) (s : State) (ph : Phase) (fresh : Fresh s ph) (idle : tas
     unfolding onJudged
     hears-well e = hears-judged ∙ ap (λ (j : Judged). onJudged j chip begun) (sym (went-on Well _ (sym e) (Ordered order) refl))
 
-    hears-guarded : firstFault (orderChecks (s .options) (s .memory) sent order) ≡ Protected → hears chip s sent ≡ refused Protected begun
+    pub hears-refused : (v : Fault) → (statusByte v ≡ 0x06 → ⊥) → firstFault (orderChecks (s .options) (s .memory) sent order) ≡ v → hears chip s sent ≡ refused v begun
     unfolding onJudged
-    hears-guarded e =
-        hears-judged ∙ ap (λ (j : Judged). onJudged j chip begun) (sym (stopped Protected _ (sym e) (Ordered order) (λ z. omega arith)))
+    hears-refused v n e =
+        hears-judged ∙ ap (λ (j : Judged). onJudged j chip begun) (sym (stopped v _ (sym e) (Ordered order) n))
 
 -- three bytes hold an address of less than 2^24
 address-back : (a : Address) → a .0 < 16777216
@@ -202,7 +203,7 @@ module _ (chip : Chip) (sized : Sized chip) (s : State) (w : waits chip s ≡ tr
         → hears chip s (command (0x22 ∷ addressBytes (firstByte f b))) ≡ out (rest Command Idle (s .options) (s .memory)) (one 0x10)
     unfolding commands rows lookup orderChecks
     hears-erase-guarded guarded =
-        hears-guarded chip s Command fresh-waiting (waiting-task chip s w) 0x22 (addressBytes (firstByte f b)) (omega arith) refl (Erase f b) erase-read (applies _ _ _ _ guarded)
+        hears-refused chip s Command fresh-waiting (waiting-task chip s w) 0x22 (addressBytes (firstByte f b)) (omega arith) refl (Erase f b) erase-read Protected (λ z. omega arith) (applies _ _ _ _ guarded)
 
   -- the commands on a range of blocks that are there
   module _ (t : Step) (order : t .first .0 ≤ t .last .0) (there : t .last .0 < blocks chip (t .flash)) where

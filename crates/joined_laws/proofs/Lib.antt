@@ -5,6 +5,7 @@ pub mod MeaningBounds
 pub mod MeaningSteps
 pub mod Opened
 pub mod PowerOn
+pub mod Released
 pub mod Run
 pub mod Sizes
 pub mod Steps

@@ -8,7 +8,7 @@ use native.Mathlib.Omega.{arith}
 use lib.Dec.{eqb}
 use lib.ListN.{length, take, drop, length-drop}
 use lib.Seq.{take-at, length-take-le}
-use borrow.Author.Tests.{ne-eqb}
+use borrow.Author.Tests.{ne-eqb, le-leb}
 use Rattle.rules.specs.declared.Chip.{Chip}
 use Rattle.rules.specs.declared.Flash.the-variants.{Code}
 use Rattle.rules.specs.declared.Options.{Options}
@@ -21,13 +21,14 @@ use Rattle.rules.specs.Chip.{Memory, total, same, blocks, identAt, identSize, i
 use Rattle.rules.specs.Options.{IDEN, IFPR}
 use Rattle.rules.specs.Frame.{dataStart, lastEnd, sumByte, frame}
 use Rattle.rules.specs.Command.{phaseNumber, commands, rows, lookup, readAs, orderChecks, ack, afterSpeed, done}
-use Rattle.rules.specs.StandIn.{State, Out, Fed, out, rest, taskNow, takes, step, feed, powered}
+use Rattle.rules.specs.StandIn.{State, Out, Fed, out, rest, taskNow, afterMode, takes, step, feed, powered}
 use Rattle.rules.specs.Player.{command}
 use Rattle.rules.specs.Run.{waits}
 use Rattle.rules.proofs.First.{passed, none-applies}
 use Rattle.octets.proofs.Lists.{same-refl}
 use Rattle.standin.specs.Opening.{speedBytes, openingBytes}
 use Rattle.joined_laws.specs.Hears.{hears}
+use Rattle.joined_laws.specs.Released.{Good, speedAt}
 use Rattle.joined_laws.proofs.FramesHeard.{Fresh, hears-well, rest-waits}
 use Rattle.joined_laws.specs.Turns.{Fit}
 
@@ -61,26 +62,32 @@ module _ (chip : Chip) (o : Options) (m : Memory) where
   fresh-rest : (ph : Phase) → (phaseNumber ph ≡ 4 → ⊥) → (phaseNumber ph ≡ 0 → ⊥) → Fresh (rest ph Idle o m) ph
   fresh-rest ph l d = record { phase = refl; listens = l; moded = d; got = refl }
 
-  mode-heard : (IFPR o ≡ 0 → ⊥) → step chip (powered o m) 0x3A ≡ out (rest Speed Idle o m) []
+  mode-heard : (mode : ℕ) → afterMode mode ≡ Speed → (IFPR o ≡ 0 → ⊥) → step chip (powered o m) mode ≡ out (rest Speed Idle o m) []
   unfolding step takes
-  mode-heard n = rw (ne-eqb (IFPR o) 0 n)
+  mode-heard mode goes n = rw (ne-eqb (IFPR o) 0 n, goes)
 
-  speed-heard : hears chip (rest Speed Idle o m) (command (0x9A ∷ 0x00 ∷ 0x21 ∷ []))
+  speed-heard : (brt vdd : ℕ) → brt ≤ 3 → 0x10 ≤ vdd → vdd ≤ 0x37 → hears chip (rest Speed Idle o m) (command (0x9A ∷ brt ∷ vdd ∷ []))
       ≡ out (rest (afterSpeed o) Idle o m) (frame dataStart lastEnd (0x06 ∷ 0x20 ∷ 0x00 ∷ []))
   unfolding commands rows lookup readAs orderChecks frame done taskNow
-  speed-heard =
-      hears-well chip (rest Speed Idle o m) Speed (fresh-rest Speed (λ e. omega arith) (λ e. omega arith)) refl 0x9A (0x00 ∷ 0x21 ∷ []) (omega arith) refl BaudRate refl (none-applies _)
+  speed-heard brt vdd slow low high =
+      hears-well chip (rest Speed Idle o m) Speed (fresh-rest Speed (λ e. omega arith) (λ e. omega arith)) refl 0x9A (brt ∷ vdd ∷ []) (omega arith) refl BaudRate
+      (rw (le-leb brt 3 slow, le-leb 0x10 vdd low, le-leb vdd 0x37 high)) (none-applies _)
 
   ident-heard : identAt + identSize ≤ length (m .code) → hears chip (rest Ident Idle o m) (command (0x9C ∷ identOf m)) ≡ out (rest Command Idle o m) ack
   unfolding commands readAs orderChecks frame done taskNow
   ident-heard long =
       hears-well chip (rest Ident Idle o m) Ident (fresh-rest Ident (λ e. omega arith) (λ e. omega arith)) refl 0x9C (identOf m) (omega (arith, ident-long m long)) (ident-known m long) Identity refl (passed _ _ _ _ (ident-same m long) ∙ none-applies _)
 
+  -- a mode byte that goes on, and a good 9Ah
+  pub rated-fed : (IFPR o ≡ 0 → ⊥) → (mode brt vdd : ℕ) → Good mode brt vdd → feed chip (powered o m) (speedAt mode brt vdd) .state ≡ rest (afterSpeed o) Idle o m
+  unfolding feed
+  rated-fed n mode brt vdd good =
+      ap (λ (x : Out). feed chip (x .state) (command (0x9A ∷ brt ∷ vdd ∷ [])) .state) (mode-heard mode (good .goes) n)
+      ∙ ap (λ (x : Out). x .state) (speed-heard brt vdd (good .slow) (good .low) (good .high))
+
   speed-fed : (IFPR o ≡ 0 → ⊥) → feed chip (powered o m) speedBytes .state ≡ rest (afterSpeed o) Idle o m
-  unfolding feed frame sumByte total
-  speed-fed n =
-      let sent = command (0x9A ∷ 0x00 ∷ 0x21 ∷ []) in
-      ap (λ (x : Out). feed chip (x .state) sent .state) (mode-heard n) ∙ ap (λ (x : Out). x .state) speed-heard
+  unfolding frame sumByte total
+  speed-fed n = rated-fed n 0x3A 0x00 0x21 (record { goes = refl; slow = omega arith; low = omega arith; high = omega arith })
 
   module _ (long : identAt + identSize ≤ length (m .code)) (n : IFPR o ≡ 0 → ⊥) where
     -- THE OPENING

@@ -1,2 +1,3 @@
 pub mod Hears
+pub mod Released
 pub mod Turns

@@ -1,6 +1,7 @@
 pub mod Bytes
 pub mod Choices
 pub mod First
+pub mod OptionBits
 pub mod Rows
 pub mod Sheet
 pub mod Trials

@@ -75,7 +75,7 @@ securitySet sf1 sf2 o =
       swe = o .swe;
     }
 
--- "Release sets every option bit to 1": those listed
+-- "Release sets every option bit to 1 except IDEN, which keeps its value" (02, M-102): those listed
 abbrev pub releasedWord : ℕ → ℕ
 releasedWord n = withBit 15 1 (n / 512 * 512 + 511)
 
@@ -83,7 +83,7 @@ unfoldable pub release : Options → Options
 release o =
     record {
       sf1 = withBit 4 1 (withBit 2 1 (withBit 1 1 (o .sf1)));
-      sf2 = withBit 4 1 (withBit 3 1 (withBit 2 1 (withBit 0 1 (o .sf2))));
+      sf2 = withBit 4 1 (withBit 3 1 (withBit 2 1 (o .sf2)));
       sws = releasedWord (o .sws);
       swe = releasedWord (o .swe);
     }

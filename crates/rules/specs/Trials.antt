@@ -56,6 +56,10 @@ unrated brt vdd =
 abbrev usedCode : ℕ → Memory
 usedCode i = record { code = set (blankFlash .code) i 0x00; «data» = blankFlash .«data» }
 
+-- what Release leaves of FF E4 8102 0304
+abbrev released : Options
+released = record { sf1 = 0xFF; sf2 = 0xFC; sws = 0x81FF; swe = 0x83FF }
+
 unfoldable pub further : List Session
 further =
     -- a Verify difference in the first of two pages is told only at the end; and no difference
@@ -164,7 +168,7 @@ further =
     ∷ onFresh speed (one 0x04)
     -- IFPR 0: Silent from the power-on
     ∷ ending 4 (flags 0xFF 0xFB) (flags 0xFF 0xFB) (to mode [] ∷ to speed [] ∷ [])
-    -- 14: Release with one byte 00h and SEPR 0; with SEPR 0 alone; with neither
+    -- 14: Release with one byte 00h and SEPR 0; with SEPR 0 alone; with neither, IDEN 0, which stays
     ∷ session
     noErase
     (usedCode 5)
@@ -173,8 +177,18 @@ further =
     ∷ session noErase blankFlash (to (command (0xA2 ∷ [])) (one 0x10) ∷ []) blankFlash
     ∷ optioned
     (record { sf1 = 0xEF; sf2 = 0xE6; sws = 0x7E00; swe = 0x0001 })
-    (record { sf1 = 0xFF; sf2 = 0xFF; sws = 0xFFFF; swe = 0x81FF })
+    (record { sf1 = 0xFF; sf2 = 0xFE; sws = 0xFFFF; swe = 0x81FF })
     (to rightIdent ack ∷ to (command (0xA2 ∷ [])) ack ∷ [])
+    -- M-102: released and shown with IDEN 0, still in Command; from the next power-on the ID is asked for; with IDEN 1 that stays too
+    ∷ optioned
+    (record { sf1 = 0xFF; sf2 = 0xE4; sws = 0x8102; swe = 0x0304 })
+    released
+    (to rightIdent ack
+    ∷ to (0x01 ∷ 0x01 ∷ 0xA2 ∷ 0x5D ∷ 0x03 ∷ []) ack
+    ∷ to (command (0xA1 ∷ [])) (ack ++ (0x02 ∷ 0x03 ∷ 0x17 ∷ 0x1C ∷ 0x00 ∷ 0xCA ∷ 0x03 ∷ []))
+    ∷ [])
+    ∷ ending 2 released released (opening ++ (to (0x01 ∷ 0x01 ∷ 0x00 ∷ 0xFF ∷ 0x03 ∷ []) (one 0x04) ∷ []))
+    ∷ optioned (flags 0xEE 0xED) (flags 0xFE 0xFD) (to (command (0xA2 ∷ [])) ack ∷ [])
     -- A0h has LEN 4; what it clears stays cleared; IFPR cleared is not answered
     ∷ optioned
     freshOptions

@@ -5,7 +5,7 @@ use super::material::{
     random_span,
 };
 use super::random::Random;
-use super::{Tape, counts};
+use super::{Tape, counts, releases};
 use crate::answers::Answers;
 use crate::chip::{Model, Span};
 use crate::frames::{
@@ -36,6 +36,9 @@ impl Script<'_> {
     fn write(&mut self) {
         if self.random.one_in(25) {
             counts::write(self.tape, &mut self.random);
+        }
+        if self.random.one_in(5) {
+            releases::write(self.tape, &mut self.random);
         }
         self.take_chip();
         self.prepare();

@@ -1,16 +1,14 @@
--- The sum of bytes, and the SUM that brings LEN and body to 0 modulo 256. Assumes nothing.
-use mathlib.Core.Path.{_≡_, refl, sym}
-use mathlib.Core.Bool.{Bool, true, false}
-use Prim.Native.Nat.{ℕ, suc, _+_, _%_, _<_, _≤_}
+-- The line of additions, LEN and body and SUM, and the SUM that brings it to 0 modulo 256. Assumes nothing.
+use mathlib.Core.Path.{_≡_, ap}
+use Prim.Native.Nat.{ℕ, suc, _+_, _-_, _%_, _<_, _≤_}
 use mathlib.Core.List.{List, _∷_}
 use native.Mathlib.Omega.{arith}
 use lib.Dec.{eqb}
 use lib.ListN.{length, take, drop, length-drop}
 use lib.Seq.{drop-cons, getD-drop}
-use borrow.Author.Tests.{eq-eqb, ne-eqb, eqb-true, eqb-false}
 use Rattle.rules.specs.Chip.{byteAt, total}
 use Rattle.rules.proofs.Bytes.{total-suc}
-use Rattle.rules.specs.Frame.{lenByte, sumByte}
+use Rattle.rules.specs.Frame.{lenByte, sumByte, addsUp}
 
 -- LEN, a body of n bytes and SUM, in a frame
 pub total-frame : (f : List ℕ) (n : ℕ)
@@ -31,10 +29,8 @@ pub sum-byte : (body : List ℕ) (r : ℕ) → (lenByte body + total body + r) %
 unfolding sumByte
 sum-byte body r e h = omega arith
 
--- a byte is that one precisely when it comes to 0 too
-pub sum-same : (s r t : ℕ) → (s + r) % 256 ≡ 0 → r < 256 → t < 256 → eqb r t ≡ eqb ((s + t) % 256) 0
-sum-same s r t e hr ht = go (eqb r t) refl
-  where
-    go : (b : Bool) → eqb r t ≡ b → b ≡ eqb ((s + t) % 256) 0
-    go true q = let z = eqb-true r t q in sym (eq-eqb ((s + t) % 256) 0 (omega arith))
-    go false q = let z = eqb-false r t q in sym (ne-eqb ((s + t) % 256) 0 (λ x. z (omega arith)))
+-- the part of a buffer from LEN up to the end byte is the line that is added
+pub line-added : (n : ℕ) (f : List ℕ) → eqb (total (take (n + 3 - 1) (drop 1 f)) % 256) 0 ≡ addsUp n f
+line-added n f =
+    let k : n + 3 - 1 ≡ n + 2 = omega arith in
+    ap (λ (j : ℕ). eqb (total (take j (drop 1 f)) % 256) 0) k

@@ -1,6 +1,7 @@
 // Building frames in lent buffers; bytes behind the frame keep their contents.
 ghost use mathlib.Core.Path.{_≡_};
 ghost use Prim.Native.Nat.{_+_, _%_, _<_};
+ghost use lib.Dec.{eqb};
 ghost use Rattle.rules.specs.Chip.{total};
 ghost use Rattle.rules.specs.Frame.{one, pair};
 ghost use Rattle.frame_build.specs.Buffer.{put, putBytes, putFrame, putAckAnd};
@@ -21,15 +22,26 @@ pub const ACK: [u8; 5] = [0x02, 0x01, 0x06, 0xF9, 0x03];
 
 pub const WELL: [u8; 6] = [0x02, 0x02, 0x06, 0x06, 0xF2, 0x03];
 
-// SUM, the one place that computes it: LEN, body and SUM come to 0 modulo 256.
+// The line of additions of 001, section 5: LEN, all that follows it and SUM, which must come to 00h.
+pub fn adds_up(line: &[u8]) -> bool
+    ensures { λ r. ⌜ r ≡ eqb (total (now (line .entry)) % 256) 0 ⌝ }
+{
+    let mut sum = 0;
+    for i in 0..line.len() {
+        sum = std::num::wrapping_add_u8(sum, line[i]);
+    }
+    sum == 0
+}
+
+// SUM: what that line still lacks of 00h when LEN and body stand in it. Each byte makes it lack so much less.
 pub fn sum_of(len: u8, body: &[u8]) -> u8
     ensures { λ r. ⌜ ((len + total (now (body .entry)) + r) % 256 ≡ 0) × (r < 256) ⌝ }
 {
-    let mut sum = len;
+    let mut lack = std::num::wrapping_sub_u8(0, len);
     for i in 0..body.len() {
-        sum = std::num::wrapping_add_u8(sum, body[i]);
+        lack = std::num::wrapping_sub_u8(lack, body[i]);
     }
-    std::num::wrapping_sub_u8(0, sum)
+    lack
 }
 
 // Bytes over the first of a buffer; nothing, and the answer 0, where there is no room.

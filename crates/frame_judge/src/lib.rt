@@ -1,6 +1,6 @@
 // Judging the whole frame that a buffer holds by its own LEN, in the order of the status table.
 use crate::table::row_of;
-use frame_build::sum_of;
+use frame_build::adds_up;
 use rules::CodeRow;
 use rules::Fault;
 use rules::Phase;
@@ -71,14 +71,13 @@ pub fn end_due(last: bool) -> u8
     if last { 0x03 } else { 0x17 }
 }
 
-// Whether SUM is the one that LEN and body ask for.
+// Whether the frame's line of additions comes to 00h: from LEN up to and with SUM, which stands before the end byte.
 fn sum_holds(frame: &[u8; 260]) -> bool
     ensures { λ r. ⌜ r ≡ sumHolds (now (frame .entry)) ⌝ }
 {
     let whole: &[u8] = frame;
-    let len = whole[1];
-    let at = body_size(len) + 2;
-    sum_of(len, &whole[2..at]) == whole[at]
+    let at = body_size(whole[1]) + 3;
+    adds_up(&whole[1..at])
 }
 
 // Rows 1 to 4 of the status table for a command frame: end byte, SUM, code and phase, LEN; the first that applies.

@@ -10,10 +10,10 @@ use lib.ListN.{length, take, drop, length-take}
 use borrow.Author.Tests.{eq-eqb, ne-eqb, eqb-true, eqb-false}
 use Rattle.rules.specs.declared.Status.the-variants.{Byte, L1}
 use Rattle.rules.specs.Chip.{byteAt, total, same}
+use Rattle.rules.specs.Frame.{addsUp}
 use Rattle.rules.specs.Player.{well, framed, commandReply, sumReply, dataReply}
 use Rattle.rules.proofs.Choices.{and-false}
 use Rattle.rules.proofs.Bytes.{same-equal}
-use Rattle.frame_build.proofs.Sum.{total-frame, sum-same}
 
 -- ---- the tests, one after the other ----
 
@@ -33,37 +33,13 @@ module _ (n : ℕ) (r : List ℕ) where
       other-len h = rw (eq-eqb (length r) (n + 4) l, eq-eqb (byteAt r 0) 0x02 b, ne-eqb (byteAt r 1) n h)
 
       module _ (e : byteAt r 1 ≡ n) where
-        abbrev summed : ℕ
-        summed = byteAt r 1 + total (take n (drop 2 r))
+        pub other-sum : addsUp n r ≡ false → framed n r ≡ false
+        unfolding framed
+        other-sum h = rw (eq-eqb (length r) (n + 4) l, eq-eqb (byteAt r 0) 0x02 b, eq-eqb (byteAt r 1) n e, h)
 
-        -- SUM as computed against the one that came
-        sum-judged : (sum : ℕ) → (summed + sum) % 256 ≡ 0 → sum < 256 → byteAt r (n + 2) < 256
-            → eqb (total (take (n + 2) (drop 1 r)) % 256) 0 ≡ eqb sum (byteAt r (n + 2))
-        sum-judged sum z a c =
-            ap (λ (x : ℕ). eqb (x % 256) 0) (total-frame r n (omega arith)) ∙ sym (sum-same summed sum (byteAt r (n + 2)) z a c)
-
-        module _ (sum : ℕ) (z : (summed + sum) % 256 ≡ 0) (a : sum < 256) (c : byteAt r (n + 2) < 256) where
-          pub other-sum : (sum ≡ byteAt r (n + 2) → ⊥) → framed n r ≡ false
-          unfolding framed
-          other-sum h =
-              rw (
-                eq-eqb (length r) (n + 4) l,
-                eq-eqb (byteAt r 0) 0x02 b,
-                eq-eqb (byteAt r 1) n e,
-                sum-judged sum z a c,
-                ne-eqb sum (byteAt r (n + 2)) h,
-              )
-
-          pub by-end : sum ≡ byteAt r (n + 2) → framed n r ≡ eqb (byteAt r (n + 3)) 0x03
-          unfolding framed
-          by-end h =
-              rw (
-                eq-eqb (length r) (n + 4) l,
-                eq-eqb (byteAt r 0) 0x02 b,
-                eq-eqb (byteAt r 1) n e,
-                sum-judged sum z a c,
-                eq-eqb sum (byteAt r (n + 2)) h,
-              )
+        pub by-end : addsUp n r ≡ true → framed n r ≡ eqb (byteAt r (n + 3)) 0x03
+        unfolding framed
+        by-end h = rw (eq-eqb (length r) (n + 4) l, eq-eqb (byteAt r 0) 0x02 b, eq-eqb (byteAt r 1) n e, h)
 
 -- ---- replies ----
 

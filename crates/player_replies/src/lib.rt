@@ -1,7 +1,7 @@
 // Replies: exactly what is due, or L1. A reply is compared with the fixed frame of `wire` first; only what differs from it is decoded.
 use frame_build::ACK;
 use frame_build::WELL;
-use frame_build::sum_of;
+use frame_build::adds_up;
 use octets::numbers::byte_at;
 use octets::numbers::word_at;
 use octets::same_bytes;
@@ -24,8 +24,8 @@ fn is_framed(n: usize, r: &[u8]) -> bool
     if r[1] as usize != n {
         return false;
     }
-    let sum = sum_of(r[1], &r[2..n + 2]);
-    if sum != r[n + 2] {
+    // LEN, body and SUM
+    if !adds_up(&r[1..n + 3]) {
         return false;
     }
     r[n + 3] == 0x03

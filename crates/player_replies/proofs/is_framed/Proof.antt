@@ -1,7 +1,8 @@
 -- `player_replies::is_framed` meets its contract: the tests one after the other. Assumes nothing.
-use mathlib.Core.Path.{_≡_, sym}
-use Prim.Native.Nat.{_+_, _-_}
+use mathlib.Core.Path.{sym, _∙_}
 use native.Mathlib.Omega.{arith}
+use borrow.Author.Tests.{not-true, not-false}
+use Rattle.frame_build.proofs.Sum.{line-added}
 use Rattle.player_replies.proofs.Framing.{other-length, other-start, other-len, other-sum, by-end}
 use borrow.Author.Needs.{needs}
 use Rattle.player_replies.proofs.is_framed.Statement.{statement}
@@ -29,25 +30,21 @@ returns-3 c =
 
 returns-4 : tie.Need-returns-4
 returns-4 c =
-    let y = c .before .before .before .before .before in
+    let y = c .before .before .before in
     let x = y .before .before .before .before in
     let a = x .before .before .args in
-    let s = c .before .before .sum-of in
-    let k : a .n + 2 - 2 ≡ a .n = omega arith in
     sym
-    (other-sum (a .n) (a .r .now) (x .if1 .left) (y .before .before .if2 .left) (y .if3 .left) (s .result) (rw k at (s .ensures .0)) (s .ensures .1)
-    (c .before .shared-slice-known5 .given (a .n + 2) .fits) (c .if4 .taken))
+    (other-sum (a .n) (a .r .now) (x .if1 .left) (y .before .before .if2 .left) (y .if3 .left)
+    (sym (c .before .adds-up .ensures ∙ line-added (a .n) (a .r .now)) ∙ not-true _ (c .if4 .taken)))
 
 returns-5 : tie.Need-returns-5
 returns-5 c =
-    let y = c .before .before .before .before .before .before in
+    let y = c .before .before .before .before in
     let x = y .before .before .before .before in
     let a = x .before .before .args in
-    let s = c .before .before .before .sum-of in
-    let k : a .n + 2 - 2 ≡ a .n = omega arith in
     sym
-    (by-end (a .n) (a .r .now) (x .if1 .left) (y .before .before .if2 .left) (y .if3 .left) (s .result) (rw k at (s .ensures .0)) (s .ensures .1)
-    (c .before .before .shared-slice-known5 .given (a .n + 2) .fits) (c .before .if4 .left))
+    (by-end (a .n) (a .r .now) (x .if1 .left) (y .before .before .if2 .left) (y .if3 .left)
+    (sym (c .before .before .adds-up .ensures ∙ line-added (a .n) (a .r .now)) ∙ not-false _ (c .before .if4 .left)))
 
 pub is-framed-spec : {M : Type 1} → statement M
 is-framed-spec =
@@ -64,10 +61,7 @@ is-framed-spec =
     (λ c. search needs)
     (λ c. search needs)
     (λ c. search needs)
-    (λ c. search needs)
     (λ c κs. search needs)
-    (λ c. search needs)
-    (λ c. search needs)
     returns-4
     (λ c. search needs)
     (λ c. search needs)

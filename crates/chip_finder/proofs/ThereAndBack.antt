@@ -1,13 +1,13 @@
 -- From a block to its addresses and back: the finder reads what it wrote, and what it reads is there. Assumes nothing.
-use mathlib.Core.Path.{_≡_, sym, _∙_}
+use mathlib.Core.Path.{_≡_, sym, ap, _∙_}
 use mathlib.Core.Logic.{_⊎_, ⊎-elim}
 use mathlib.Core.Bool.{true}
 use Prim.Native.Nat.{ℕ, _+_, _-_, _*_, _%_, _<_, _≤_}
-use native.Mathlib.Nat.{add-zero, mul-le-mul-right, le-div-iff-mul-le, div-mul-le-self}
+use native.Mathlib.Nat.{add-zero, mul-le-mul-right, le-div-iff-mul-le, div-mul-le-self, div-add-mod'}
 use native.Mathlib.Omega.{arith}
 use lib.Arith.{digits-lt, digits-div, digits-mod}
 use lib.Dec.{ltb, leb, eqb}
-use borrow.Author.Tests.{eq-eqb, le-ltb, le-leb, leb-true, ltb-true}
+use borrow.Author.Tests.{eq-eqb, eqb-true, le-ltb, le-leb, leb-true, ltb-true}
 use Rattle.rules.specs.declared.Chip.{Chip}
 use Rattle.rules.specs.declared.Flash.{Flash}
 use Rattle.rules.specs.declared.Flash.the-variants.{Code, Data}
@@ -117,3 +117,37 @@ pub range-inside : (chip : Chip) (sad ead : Address) (f : Flash) (a b : Block) �
     → (a .0 ≤ b .0) × (b .0 < blocks chip f)
 range-inside chip sad ead f a b e =
     ⊎-elim (λ q. pair-inside chip Code sad ead f a b (sym q ∙ e)) (λ q. pair-inside chip Data sad ead f a b (sym q ∙ e)) (range-split chip sad ead)
+
+-- ---- and the addresses read are those of its blocks ----
+
+-- a byte by its block and its offset there
+byte-back : (f : Flash) (a : Address) (o : ℕ) → start f ≤ a .0 → (a .0 - start f) % blockSize f ≡ o
+    → a .0 ≡ start f + blockAt f a .0 * blockSize f + o
+byte-back f a o h e = let d = div-add-mod' (a .0 - start f) (blockSize f) in omega arith
+
+pair-back : (chip : Chip) (f : Flash) (sad ead : Address) (g : Flash) (a b : Block) → pairOf chip f sad ead ≡ Blocks g a b
+    → (sad ≡ firstByte g a) × (ead ≡ lastByte g b)
+unfolding pairOf
+pair-back chip f sad ead g a b e =
+    let p = picked (pairIn chip f sad ead) (Blocks f (blockAt f sad) (blockAt f ead)) Invalid (Blocks g a b) e (blocks-there g a b) in
+    let q = each-of-five (leb (sad .0) (ead .0)) (within chip f sad) (within chip f ead) (begins f sad) (ends f ead) (p .0) in
+    let x : f ≡ g = cc (p .1) in
+    let y : blockAt f sad ≡ a = cc (p .1) in
+    let z : blockAt f ead ≡ b = cc (p .1) in
+    let l = from sad (q .1) in
+    let u = from ead (q .2) in
+    let low = byte-back f sad 0 l (eqb-true ((sad .0 - start f) % blockSize f) 0 (q .3)) in
+    let high = byte-back f ead (blockSize f - 1) u (eqb-true ((ead .0 - start f) % blockSize f) (blockSize f - 1) (q .4)) in
+    rw (← x, ← y, ← z)
+    (ap address (low ∙ add-zero (start f + blockAt f sad .0 * blockSize f)), ap address high)
+  where
+    address : ℕ → Address
+    address n = record { 0 = n }
+
+    from : (c : Address) → within chip f c ≡ true → start f ≤ c .0
+    from c w = leb-true (start f) (c .0) (both (leb (start f) (c .0)) (ltb (c .0) (start f + flashSize chip f)) w .0)
+
+pub range-back : (chip : Chip) (sad ead : Address) (f : Flash) (a b : Block) → range chip sad ead ≡ Blocks f a b
+    → (sad ≡ firstByte f a) × (ead ≡ lastByte f b)
+range-back chip sad ead f a b e =
+    ⊎-elim (λ q. pair-back chip Code sad ead f a b (sym q ∙ e)) (λ q. pair-back chip Data sad ead f a b (sym q ∙ e)) (range-split chip sad ead)

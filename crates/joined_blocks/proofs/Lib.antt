@@ -1,0 +1,4 @@
+pub mod Erases
+pub mod PartsPut
+pub mod Sums
+pub mod Values

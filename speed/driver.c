@@ -189,6 +189,15 @@ static void put_pair(u8 code, u32 sad, u32 ead)
     put_frame(0x01, body, 7, 0x03);
 }
 
+static void put_blank_check(u32 sad, u32 ead, u8 tar)
+{
+    u8 body[8] = {0x32};
+    put_address(body + 1, sad);
+    put_address(body + 4, ead);
+    body[7] = tar;
+    put_frame(0x01, body, 8, 0x03);
+}
+
 static void put_erase(u32 sad)
 {
     u8 body[4] = {0x22};
@@ -293,6 +302,12 @@ static void in_checksum(void)
         put_pair(0xB0, data_at(i % 8), data_at(i % 8 + 1) - 1);
 }
 
+static void in_blank_check(void)
+{
+    for (int i = 0; i < scale; i++)
+        put_blank_check(0, CODE_SIZE - 1, 0x01);
+}
+
 static void in_erase_data(void)
 {
     for (int i = 0; i < 100 * scale; i++)
@@ -393,6 +408,7 @@ static const struct row rows[] = {
     {"Window Get", ENGINE, in_window_get, 0},
     {"Window Set", ENGINE, in_window_set, 0},
     {"Checksum of a data block", ENGINE, in_checksum, 0},
+    {"Blank Check of a blank code flash", ENGINE, in_blank_check, 0},
     {"Erase of a data block", ENGINE, in_erase_data, 0},
     {"Erase of a code block", ENGINE, in_erase_code, 0},
     {"kept a call: Programming", CALLED, in_data_frames, 0},
@@ -628,7 +644,7 @@ static void random_pages(u32 sad, u32 ead)
 
 static void random_command(void)
 {
-    static const u8 codes[] = {0x00, 0x13, 0x22, 0x40, 0x9A, 0x9C, 0xA0, 0xA1, 0xA2, 0xAC, 0xAD, 0xB0, 0x55};
+    static const u8 codes[] = {0x00, 0x13, 0x22, 0x32, 0x40, 0x9A, 0x9C, 0xA0, 0xA1, 0xA2, 0xAC, 0xAD, 0xB0, 0x55};
     u8 body[256], code = codes[any(sizeof codes)];
     u32 sad, ead;
     size from = input_n;
@@ -647,6 +663,9 @@ static void random_command(void)
         return;
     case 0x22:
         put_erase(sad);
+        break;
+    case 0x32:
+        put_blank_check(sad, ead, any(3));
         break;
     case 0x9A:
         body[1] = any(5);

@@ -126,6 +126,7 @@ enum {
     IDEN = 0x01, // SF2
     IFPR = 0x04,
     SF2_BITS = 0x1D,
+    SF2_BLANK = 0x19, // IDEN, SWPR, CMPR: those that a blank check counts in
     BLOCK_BITS = 0x01FF, // SWS, SWE
     FLAG = 0x8000,
     WINDOW_BITS = BLOCK_BITS | FLAG,
@@ -149,9 +150,10 @@ static const struct device waiting = {COMMAND, IDLE, 0xFF, 0xFF, 0xFFFF, 0xFFFF,
 static const struct {
     u8 code, len, phase;
 } commands[] = {
-    {0x00, 1, COMMAND}, {0x13, 7, COMMAND}, {0x22, 4, COMMAND}, {0x40, 7, COMMAND},
-    {0x9A, 3, SPEED},   {0x9C, 11, IDENT},  {0xA0, 4, COMMAND}, {0xA1, 1, COMMAND},
-    {0xA2, 1, COMMAND}, {0xAC, 5, COMMAND}, {0xAD, 1, COMMAND}, {0xB0, 7, COMMAND},
+    {0x00, 1, COMMAND}, {0x13, 7, COMMAND}, {0x22, 4, COMMAND}, {0x32, 8, COMMAND},
+    {0x40, 7, COMMAND}, {0x9A, 3, SPEED},   {0x9C, 11, IDENT},  {0xA0, 4, COMMAND},
+    {0xA1, 1, COMMAND}, {0xA2, 1, COMMAND}, {0xAC, 5, COMMAND}, {0xAD, 1, COMMAND},
+    {0xB0, 7, COMMAND},
 };
 
 static int put_frame(u8 *reply, const u8 *body, u8 n)
@@ -252,6 +254,20 @@ static int release(struct device *d, struct lent m, u8 *reply)
     return put_one(reply, 0x06);
 }
 
+// TAR 01h counts the option bits in.
+static int blank_check(const struct device *d, const u8 *frame, struct lent m, u8 *reply)
+{
+    struct range r;
+    if (frame[9] > 1 || !range_of(address_at(frame + 3), address_at(frame + 6), &r))
+        return put_one(reply, 0x05);
+    if (!is_blank((r.in_data ? m.data : m.code) + r.from, r.to - r.from))
+        return put_one(reply, 0x1B);
+    if (frame[9] == 1
+        && (~d->sf1 & SF1_BITS || ~d->sf2 & SF2_BLANK || ~d->sws & WINDOW_BITS || ~d->swe & WINDOW_BITS))
+        return put_one(reply, 0x1B);
+    return put_one(reply, 0x06);
+}
+
 static int window_get(const struct device *d, u8 *reply)
 {
     u16 sws = d->sws & WINDOW_BITS, swe = d->swe & WINDOW_BITS;
@@ -274,6 +290,8 @@ static int obey(struct device *d, const u8 *frame, struct lent m, u8 *reply)
         return begin_pages(d, VERIFYING, &r, reply);
     case 0x22:
         return erase(d, address_at(frame + 3), m, reply);
+    case 0x32:
+        return blank_check(d, frame, m, reply);
     case 0x40:
         if (!range_of(address_at(frame + 3), address_at(frame + 6), &r))
             return put_one(reply, 0x05);

@@ -9,7 +9,7 @@ use crate::lines::{
 use crate::options::Options;
 use crate::player::Refusal;
 use crate::sheet::{MOST_STEPS, Sheet};
-use crate::standin::StandIn;
+use crate::standin::{Answer, StandIn};
 
 pub struct Answers {
     chip: StandIn,
@@ -49,6 +49,25 @@ impl Answers {
         self.chip.flash.store(area, address, &bytes)?;
         self.chip.power_off();
         Some(())
+    }
+
+    /// The lines that tell what is answered to bytes. A note ends its line.
+    fn receive(&mut self, bytes: &[u8]) -> String {
+        let mut text = String::new();
+        let mut answered = Vec::new();
+        for &byte in bytes {
+            let Answer { bytes, note } = self.chip.receive(byte);
+            answered.extend(bytes);
+            if let Some(note) = note {
+                text.push_str(&byte_line("<", &answered));
+                text.push_str(&format!("{note}\n"));
+                answered.clear();
+            }
+        }
+        if !answered.is_empty() {
+            text.push_str(&byte_line("<", &answered));
+        }
+        text
     }
 
     fn show(&self) -> String {
@@ -106,10 +125,7 @@ impl LineRunner for Answers {
             (b">", [_, ..]) => {
                 let bytes = hex_bytes(rest)?;
                 out.push_str(&byte_line(">", &bytes));
-                let answer = self.chip.receive_all(&bytes);
-                if !answer.is_empty() {
-                    out.push_str(&byte_line("<", &answer));
-                }
+                out.push_str(&self.receive(&bytes));
             }
             (b"?", []) => out.push_str(&self.show()),
             (b"play", []) => out.push_str(&self.play()),

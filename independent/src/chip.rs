@@ -191,6 +191,14 @@ impl Flash {
         &mut self.area_mut(span.area)[span.start..span.start + span.length]
     }
 
+    /// The place of the first byte of a span that is not blank, as block of the
+    /// flash and page of the block.
+    pub fn first_not_blank(&self, span: Span) -> Option<(usize, usize)> {
+        let at = span.start + self.part(span).iter().position(|&byte| byte != BLANK)?;
+        let block = span.area.block_length();
+        Some((at / block, at % block / PAGE))
+    }
+
     pub fn is_blank(&self) -> bool {
         Area::BOTH.iter().all(|&area| all_blank(self.area(area)))
     }

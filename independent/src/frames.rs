@@ -18,6 +18,7 @@ pub mod code {
     pub const RESET: u8 = 0x00;
     pub const VERIFY: u8 = 0x13;
     pub const ERASE: u8 = 0x22;
+    pub const BLANK_CHECK: u8 = 0x32;
     pub const PROGRAM: u8 = 0x40;
     pub const SPEED: u8 = 0x9A;
     pub const IDENT: u8 = 0x9C;

@@ -1,5 +1,6 @@
 //! Seeded trial material. The same seed gives the same text on every machine.
 
+mod blanks;
 mod counts;
 pub mod material;
 mod plays;
@@ -8,7 +9,10 @@ mod releases;
 mod scripts;
 mod sheets;
 
-use crate::lines::{LineRunner, MOST_INPUT};
+use crate::answers::Answers;
+use crate::joined::bring_up_bytes;
+use crate::lines::{LineRunner, MOST_INPUT, byte_line};
+use crate::standin::Phase;
 
 #[derive(Clone, Copy, Debug, PartialEq, Eq)]
 pub enum Subject {
@@ -76,5 +80,31 @@ impl<R: LineRunner> Tape<R> {
         for line in text.lines() {
             self.line(line);
         }
+    }
+}
+
+impl Tape<Answers> {
+    fn send(&mut self, bytes: &[u8]) {
+        self.line(&byte_line(">", bytes));
+    }
+
+    /// From power-on past Baud Rate Set.
+    fn set_speed(&mut self) {
+        self.line("!");
+        let [mode, speed, _] = self.bring_up_bytes();
+        self.send(&mode);
+        self.send(&speed);
+    }
+
+    /// Sends the right ID, if it is asked for.
+    fn identify(&mut self) {
+        if self.runner.chip().phase() == Phase::Ident {
+            let [_, _, ident] = self.bring_up_bytes();
+            self.send(&ident);
+        }
+    }
+
+    fn bring_up_bytes(&self) -> [Vec<u8>; 3] {
+        bring_up_bytes(self.runner.chip().flash.connection_id())
     }
 }

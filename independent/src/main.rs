@@ -10,6 +10,7 @@ mod generator;
 mod joined;
 mod lines;
 mod meaning;
+mod note;
 mod options;
 mod player;
 mod sheet;

@@ -63,6 +63,15 @@ impl Options {
         self.sws & FSPR != 0
     }
 
+    /// Whether every option bit is 1, whatever the stray bits are.
+    pub fn are_blank(&self) -> bool {
+        let Options { sf1, sf2, sws, swe } = self;
+        sf1 & SF1_BITS == SF1_BITS
+            && sf2 & SF2_BITS == SF2_BITS
+            && sws & SWS_BITS == SWS_BITS
+            && swe & SWE_BITS == SWE_BITS
+    }
+
     pub fn erase_protects(&self, block: Span) -> bool {
         !self.sf1_has(SEPR) || self.boot_protects(block)
     }

@@ -2,6 +2,7 @@
 
 use crate::chip::{BLANK, D0, Flash, Model, Span, all_blank, checksum};
 use crate::frames::{self, COMMAND_START, DATA_START, END, Received, Receiver, code};
+use crate::note::Note;
 use crate::options::{BTPR, IDEN, IFPR, Options, SEPR};
 use crate::status;
 
@@ -40,10 +41,11 @@ const fn rule(code: u8, len: u8, phase: Phase) -> Rule {
     Rule { code, len, phase }
 }
 
-const RULES: [Rule; 12] = [
+const RULES: [Rule; 13] = [
     rule(code::RESET, 1, Phase::Command),
     rule(code::VERIFY, 7, Phase::Command),
     rule(code::ERASE, 4, Phase::Command),
+    rule(code::BLANK_CHECK, 8, Phase::Command),
     rule(code::PROGRAM, 7, Phase::Command),
     rule(code::SPEED, 3, Phase::Speed),
     rule(code::IDENT, 11, Phase::Ident),
@@ -74,6 +76,37 @@ enum Work {
     Write { before: u8 },
     /// With the word whether some page differed so far.
     Verify { differs: bool },
+}
+
+/// The answer to a byte, mostly empty, and the note on it.
+#[derive(Default)]
+pub struct Answer {
+    pub bytes: Vec<u8>,
+    pub note: Option<Note>,
+}
+
+impl Answer {
+    fn without_note(bytes: Vec<u8>) -> Answer {
+        Answer { bytes, note: None }
+    }
+}
+
+/// Why a command is refused.
+struct Fault {
+    status: u8,
+    note: Option<Note>,
+}
+
+impl Fault {
+    fn with_note(status: u8, note: Note) -> Fault {
+        Fault { status, note: Some(note) }
+    }
+}
+
+impl From<u8> for Fault {
+    fn from(status: u8) -> Fault {
+        Fault { status, note: None }
+    }
 }
 
 /// What the data frame due next is for.
@@ -149,27 +182,27 @@ impl StandIn {
         self.transfer = None;
     }
 
-    /// Takes one byte and gives the bytes answered to it.
-    pub fn receive(&mut self, byte: u8) -> Vec<u8> {
+    /// Takes one byte and gives the answer to it.
+    pub fn receive(&mut self, byte: u8) -> Answer {
         match self.phase {
-            Phase::Off | Phase::Silent => Vec::new(),
+            Phase::Off | Phase::Silent => Answer::default(),
             Phase::Mode => {
                 self.phase = match byte {
                     0x3A | 0x00 => Phase::Speed,
                     _ => Phase::Silent,
                 };
-                Vec::new()
+                Answer::default()
             }
             Phase::Speed | Phase::Ident | Phase::Command => match self.transfer.take() {
                 None => match self.receiver.take(byte, COMMAND_START) {
                     Some(frame) => self.take_command(&frame),
-                    None => Vec::new(),
+                    None => Answer::default(),
                 },
                 Some(transfer) => match self.receiver.take(byte, DATA_START) {
-                    Some(frame) => self.take_page(transfer, &frame),
+                    Some(frame) => Answer::without_note(self.take_page(transfer, &frame)),
                     None => {
                         self.transfer = Some(transfer);
-                        Vec::new()
+                        Answer::default()
                     }
                 },
             },
@@ -178,24 +211,23 @@ impl StandIn {
 
     /// Takes bytes one by one and gives all that was answered to them.
     pub fn receive_all(&mut self, bytes: &[u8]) -> Vec<u8> {
-        bytes.iter().flat_map(|&byte| self.receive(byte)).collect()
+        bytes.iter().flat_map(|&byte| self.receive(byte).bytes).collect()
     }
 
-    fn take_command(&mut self, frame: &Received) -> Vec<u8> {
+    fn take_command(&mut self, frame: &Received) -> Answer {
         match self.judge_command(frame) {
-            Ok(answers) => answers,
-            Err(fault) => frames::answer(&[fault]),
+            Ok(answers) => Answer::without_note(answers),
+            Err(Fault { status, note }) => Answer { bytes: frames::answer(&[status]), note },
         }
     }
 
-    /// The answers of a command that is well, or the status byte of the first
-    /// fault.
-    fn judge_command(&mut self, frame: &Received) -> Result<Vec<u8>, u8> {
+    /// The answers of a command that is well, or the first fault.
+    fn judge_command(&mut self, frame: &Received) -> Result<Vec<u8>, Fault> {
         if frame.end != END {
-            return Err(status::NACK);
+            return Err(Fault::from(status::NACK));
         }
         if !frame.sum_is_right() {
-            return Err(status::CHECKSUM);
+            return Err(Fault::from(status::CHECKSUM));
         }
         let code = frame.body[0];
         let rule = RULES
@@ -205,7 +237,7 @@ impl StandIn {
         let outcome = if frame.len == rule.len {
             self.obey(code, &frame.body[1..])
         } else {
-            Err(status::NACK)
+            Err(Fault::from(status::NACK))
         };
         // From here on a fault before phase Command is a LEN, parameter or ID
         // fault in 9Ah or 9Ch.
@@ -216,27 +248,27 @@ impl StandIn {
     }
 
     /// Does a command whose frame, code and LEN are right.
-    fn obey(&mut self, code: u8, information: &[u8]) -> Result<Vec<u8>, u8> {
-        match code {
-            code::SPEED => self.set_speed(information[0], information[1]),
-            code::IDENT => self.identify(information),
-            code::ERASE => self.erase(information),
-            code::PROGRAM => self.begin(information, Work::Write { before: status::ACK }),
-            code::VERIFY => self.begin(information, Work::Verify { differs: false }),
+    fn obey(&mut self, code: u8, information: &[u8]) -> Result<Vec<u8>, Fault> {
+        let answers = match code {
+            code::SPEED => self.set_speed(information[0], information[1])?,
+            code::IDENT => self.identify(information)?,
+            code::ERASE => self.erase(information)?,
+            code::BLANK_CHECK => self.check_blank(information)?,
+            code::PROGRAM => self.begin(information, Work::Write { before: status::ACK })?,
+            code::VERIFY => self.begin(information, Work::Verify { differs: false })?,
             code::CHECKSUM => {
                 let sum = checksum(self.flash.part(self.pair_in(information)?));
-                Ok(ack_and(&sum.to_le_bytes()))
+                ack_and(&sum.to_le_bytes())
             }
-            code::SECURITY_SET => Ok(self.set_security(information[0], information[1])),
-            code::SECURITY_GET => Ok(ack_and(&self.options.shown_flags())),
-            code::RELEASE => self.release(),
-            code::WINDOW_SET => self.set_window(information),
-            code::WINDOW_GET => {
-                Ok(ack_and(&self.options.shown_window(self.model().last_code_block())))
-            }
-            code::RESET => Ok(ack()),
-            _ => Err(status::COMMAND_NUMBER),
-        }
+            code::SECURITY_SET => self.set_security(information[0], information[1]),
+            code::SECURITY_GET => ack_and(&self.options.shown_flags()),
+            code::RELEASE => self.release()?,
+            code::WINDOW_SET => self.set_window(information)?,
+            code::WINDOW_GET => ack_and(&self.options.shown_window(self.model().last_code_block())),
+            code::RESET => ack(),
+            _ => return Err(Fault::from(status::COMMAND_NUMBER)),
+        };
+        Ok(answers)
     }
 
     fn set_speed(&mut self, brt: u8, vdd: u8) -> Result<Vec<u8>, u8> {
@@ -261,6 +293,24 @@ impl StandIn {
             return Err(status::PROTECTED);
         }
         self.flash.part_mut(block).fill(BLANK);
+        Ok(ack())
+    }
+
+    /// The flash counts before the options, which only TAR 01h counts in.
+    fn check_blank(&self, information: &[u8]) -> Result<Vec<u8>, Fault> {
+        let span = self.pair_in(information)?;
+        let with_options = match information[6] {
+            0x00 => false,
+            0x01 => true,
+            _ => return Err(Fault::from(status::PARAMETER)),
+        };
+        if let Some((block, page)) = self.flash.first_not_blank(span) {
+            let note = Note::NotBlank { area: span.area, block, page };
+            return Err(Fault::with_note(status::NOT_BLANK, note));
+        }
+        if with_options && !self.options.are_blank() {
+            return Err(Fault::with_note(status::NOT_BLANK, Note::Options));
+        }
         Ok(ack())
     }
 

@@ -2,7 +2,7 @@
 
 mod common;
 
-use common::{BRING_UP, answers, run};
+use common::{BRING_UP, answers, in_command, run};
 
 /// What a script for a large chip in phase Command writes, without the lines
 /// that bring it there.
@@ -145,5 +145,112 @@ mod m102_id_checking_stays_on {
         let script = format!("options EE E7 0000 0000\n{BRING_UP}{RELEASE}{BRING_UP}?\n");
         let text = answers(&script);
         assert!(text.ends_with("phase Command\noptions FE FF 81FF 81FF\n"), "{text}");
+    }
+}
+
+mod m100_blank_check {
+    use super::*;
+
+    /// F1000h to F11FFh, flash alone; the same with the options; code block 0
+    /// and 1 with the options.
+    const DATA: &str = "> 01 08 32 00 10 0F FF 11 0F 00 88 03\n";
+    const DATA_AND_OPTIONS: &str = "> 01 08 32 00 10 0F FF 11 0F 01 87 03\n";
+    const CODE_AND_OPTIONS: &str = "> 01 08 32 00 00 00 FF 0F 00 01 B7 03\n";
+
+    fn told(preparation: &str, line: &str) -> String {
+        in_command(preparation, line).join("|")
+    }
+
+    const ACK: &str = "< 02 01 06 F9 03";
+
+    #[test]
+    fn blank() {
+        for line in [DATA, DATA_AND_OPTIONS, CODE_AND_OPTIONS] {
+            assert_eq!(told("", line), ACK);
+        }
+        // Unnamed bits and BTFLG, which always reads 1, do not count.
+        assert_eq!(told("options 16 1D 81FF 81FF\n", CODE_AND_OPTIONS), ACK);
+        // Bytes outside the range do not count.
+        assert_eq!(told("data F1200 00\ncode 01000 00\n", DATA), ACK);
+        assert_eq!(told("data F1000 00\ncode 01000 00\n", CODE_AND_OPTIONS), ACK);
+    }
+
+    #[test]
+    fn the_first_byte_that_is_not_blank() {
+        let not_blank = "< 02 01 1B E4 03";
+        assert_eq!(told("data F1100 00\n", DATA), format!("{not_blank}|note data 1 0"));
+        assert_eq!(told("data F10FF FE FE\n", DATA), format!("{not_blank}|note data 0 0"));
+        let code = |at: &str| told(&format!("code {at} 7F\n"), CODE_AND_OPTIONS);
+        assert_eq!(code("00000"), format!("{not_blank}|note code 0 0"));
+        assert_eq!(code("007FF"), format!("{not_blank}|note code 0 7"));
+        assert_eq!(code("00800"), format!("{not_blank}|note code 1 0"));
+        assert_eq!(code("00DFF"), format!("{not_blank}|note code 1 5"));
+        // The block is counted in its flash, not in the range: F1700h alone.
+        let last = "> 01 08 32 00 17 0F FF 17 0F 00 7B 03\n";
+        assert_eq!(told("data F1700 00\n", last), format!("{not_blank}|note data 7 0"));
+    }
+
+    #[test]
+    fn each_option_bit_counts_with_tar_1_only() {
+        let (ones, not_blank) = ([0xFFu32, 0xFF, 0xFFFF, 0xFFFF], "< 02 01 1B E4 03|note options");
+        // IDEN and IFPR are left out: with them 0 no command is reached so.
+        let named = [0x16u32, 0x18, 0x81FF, 0x81FF];
+        for word in 0..4 {
+            for bit in 0..16 {
+                let mut options = ones;
+                options[word] &= !(1 << bit);
+                if named[word] == 0x18 && (bit == 0 || bit == 2) {
+                    continue;
+                }
+                let [sf1, sf2, sws, swe] = options;
+                let line = format!("options {sf1:02X} {sf2:02X} {sws:04X} {swe:04X}\n");
+                let due = if named[word] & 1 << bit != 0 { not_blank } else { ACK };
+                assert_eq!(told(&line, DATA_AND_OPTIONS), due, "{line}");
+                assert_eq!(told(&line, DATA), ACK, "{line}");
+            }
+        }
+        // IDEN 0, after the ID.
+        let id = "> 01 0B 9C FF FF FF FF FF FF FF FF FF FF 63 03\n";
+        let lines = told("options FF FE FFFF FFFF\n", &format!("{id}{DATA_AND_OPTIONS}"));
+        assert_eq!(lines, format!("{ACK}|{not_blank}"));
+        // The flash is named before the options.
+        let both = "options FF EF FFFF FFFF\ndata F1000 00\n";
+        assert_eq!(told(both, DATA_AND_OPTIONS), "< 02 01 1B E4 03|note data 0 0");
+    }
+
+    #[test]
+    fn refusals() {
+        let dirty = "data F1000 00\n";
+        // TAR 02h; EAD F11FEh; LEN 7, the TAR missing; the code before Command.
+        assert_eq!(told(dirty, "> 01 08 32 00 10 0F FF 11 0F 02 86 03\n"), "< 02 01 05 FA 03");
+        assert_eq!(told(dirty, "> 01 08 32 00 10 0F FE 11 0F 00 89 03\n"), "< 02 01 05 FA 03");
+        assert!(told(dirty, "> 01 07 32 00 10 0F FF 11 0F 89 03\n").starts_with("< 02 01 15 EA"));
+        let early = answers(&format!("!\n> 3A\n{DATA}"));
+        assert!(early.ends_with(&format!("{DATA}< 02 01 04 FB 03\n")), "{early}");
+    }
+
+    #[test]
+    fn a_note_ends_its_line() {
+        let frame = "01 08 32 00 10 0F FF 11 0F 00 88 03";
+        let reset = "01 01 00 FF 03";
+        let lines = in_command(
+            "data F1100 00\n",
+            &format!("> {reset} {frame} {reset} {reset} {frame}\n?\n"),
+        );
+        assert_eq!(
+            lines[..4],
+            [
+                "< 02 01 06 F9 03 02 01 1B E4 03",
+                "note data 1 0",
+                "< 02 01 06 F9 03 02 01 06 F9 03 02 01 1B E4 03",
+                "note data 1 0",
+            ]
+        );
+        assert_eq!(lines[4..6], ["phase Command", "options FF FF FFFF FFFF"]);
+    }
+
+    #[test]
+    fn release_has_no_note() {
+        assert_eq!(told("code 00000 00\n", "> 01 01 A2 5D 03\n"), "< 02 01 1B E4 03");
     }
 }

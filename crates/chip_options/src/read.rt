@@ -3,10 +3,10 @@ use rules::Block;
 use rules::Chip;
 use rules::Options;
 ghost use mathlib.Core.Path.{_≡_};
-ghost use mathlib.Core.Bool.{cond};
+ghost use mathlib.Core.Bool.{cond, _&&_};
 ghost use Prim.Native.Nat.{_+_, _-_, _*_};
 ghost use lib.Dec.{eqb};
-ghost use Rattle.rules.specs.Options.{BTPR, SEPR, WRPR, IDEN, IFPR, SWPR, CMPR, FSPR, FSWC, FSWS, FSWE, freshOptions, shownSF1, shownSF2, shownFSWS, shownFSWE, shownSWS, shownSWE};
+ghost use Rattle.rules.specs.Options.{BTPR, SEPR, WRPR, IDEN, IFPR, SWPR, CMPR, FSPR, FSWC, FSWS, FSWE, blankOptions, freshOptions, shownSF1, shownSF2, shownFSWS, shownFSWE, shownSWS, shownSWE};
 ghost use Rattle.rules.specs.Chip.{block, blocks};
 ghost use Rattle.rules.specs.declared.Flash.the-variants.{Code};
 
@@ -88,6 +88,59 @@ pub fn fswe(o: Options) -> Block
     ensures { λ r. ⌜ r ≡ FSWE o ⌝ }
 {
     Block(o.swe % 512)
+}
+
+// ---- the bits that a blank check counts in ----
+
+// The flags of SF1 and SF2 that are counted in are 1: IFPR is not.
+fn blank_sf1(o: Options) -> bool
+    ensures { λ r. ⌜ r ≡ (eqb (BTPR o) 1 && eqb (SEPR o) 1 && eqb (WRPR o) 1) ⌝ }
+{
+    if btpr(o) != 1 {
+        return false;
+    }
+    if sepr(o) != 1 {
+        return false;
+    }
+    wrpr(o) == 1
+}
+
+fn blank_sf2(o: Options) -> bool
+    ensures { λ r. ⌜ r ≡ (eqb (IDEN o) 1 && eqb (SWPR o) 1 && eqb (CMPR o) 1) ⌝ }
+{
+    if iden(o) != 1 {
+        return false;
+    }
+    if swpr(o) != 1 {
+        return false;
+    }
+    cmpr(o) == 1
+}
+
+// A window word's block number is 511 and its flag 1: nine bits and one.
+fn blank_window(b: Block, flag: u16) -> bool
+    ensures { λ r. ⌜ r ≡ (eqb (b .0) 511 && eqb flag 1) ⌝ }
+{
+    if b.0 != 511 {
+        return false;
+    }
+    flag == 1
+}
+
+// Every option bit that a blank check counts in is 1.
+pub fn blank_options(o: Options) -> bool
+    ensures { λ r. ⌜ r ≡ blankOptions o ⌝ }
+{
+    if !blank_sf1(o) {
+        return false;
+    }
+    if !blank_sf2(o) {
+        return false;
+    }
+    if !blank_window(fsws(o), fspr(o)) {
+        return false;
+    }
+    blank_window(fswe(o), fswc(o))
 }
 
 // ---- what reads back ----

@@ -3,11 +3,12 @@ use crate::table::row_of;
 use frame_build::adds_up;
 use rules::CodeRow;
 use rules::Fault;
+use rules::Note;
 use rules::Phase;
 ghost use mathlib.Core.Path.{_≡_};
 ghost use Prim.Native.Nat.{_≤_};
 ghost use Rattle.rules.specs.First.{firstFault};
-ghost use Rattle.rules.specs.Frame.{bodySize, frameSize, endOf, endDue, sumHolds, statusByte, dataFault};
+ghost use Rattle.rules.specs.Frame.{bodySize, frameSize, endOf, endDue, sumHolds, statusByte, noteOf, dataFault};
 ghost use Rattle.rules.specs.Command.{phaseNumber, frameChecks};
 ghost use Rattle.frame_build.specs.Buffer.{frameIn};
 
@@ -37,10 +38,29 @@ pub fn status_byte(v: Fault) -> u8
         Fault::Length => 0x15,
         Fault::Parameter => 0x05,
         Fault::Ident => 0x24,
-        Fault::NotBlank => 0x1B,
+        Fault::NotBlank(_) => 0x1B,
         Fault::Protected => 0x10,
         Fault::PageNotBlank => 0x1C,
         Fault::Difference => 0x0F,
+    }
+}
+
+// What the note tells of a verdict.
+pub fn note_of(v: Fault) -> Note
+    ensures { λ r. ⌜ r ≡ noteOf v ⌝ }
+{
+    match v {
+        Fault::Well => Note::Empty,
+        Fault::EndByte => Note::Empty,
+        Fault::Sum => Note::Empty,
+        Fault::Code => Note::Empty,
+        Fault::Length => Note::Empty,
+        Fault::Parameter => Note::Empty,
+        Fault::Ident => Note::Empty,
+        Fault::NotBlank(note) => note,
+        Fault::Protected => Note::Empty,
+        Fault::PageNotBlank => Note::Empty,
+        Fault::Difference => Note::Empty,
     }
 }
 

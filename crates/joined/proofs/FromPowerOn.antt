@@ -29,7 +29,7 @@ use Rattle.standin_state.proofs.Lending.{flashes-fit, all-lent}
 use Rattle.standin_engine.specs.View.{view}
 use Rattle.standin_engine.proofs.Stays.{letter}
 use Rattle.standin.specs.declared.call.Device.{Device}
-use Rattle.standin.specs.declared.call.Answered.{Answered}
+use Rattle.standin.specs.declared.call.PoweredOn.{PoweredOn}
 use Rattle.standin.specs.declared.feeding.Fed.{Fed}
 use Rattle.standin.specs.Shows.{shows, poweredAs}
 use Rattle.standin.specs.Feeding.{Feeding, feeding, fedAs, goesOn, feedFrom, fedInto}
@@ -89,7 +89,7 @@ module _ (chip : Chip) where
   flashes : known chip ≡ true → (code dat : List ℕ) → Fit chip (memory code dat) → flashVerdict chip (length code) (length dat) ≡ v.Accepted
   flashes counts code dat fit = sym (flashes-fit chip (length code) (length dat) counts (eq-eqb _ _ (fit Code)) (eq-eqb _ _ (fit Data)))
 
-  module _ (counts : known chip ≡ true) (d : Device) (same : d .chip ≡ chip) (o : Options) (code dat : List ℕ) (fit : Fit chip (memory code dat)) (a : Answered)
+  module _ (counts : known chip ≡ true) (d : Device) (same : d .chip ≡ chip) (o : Options) (code dat : List ℕ) (fit : Fit chip (memory code dat)) (a : PoweredOn)
       (on : poweredAs a (memory code dat) ≡ powerOn (d .chip) (shows d (memory code dat)) o (memory code dat))
       (f : Fed) (held code1 dat1 out1 : List ℕ) where
     abbrev m : Memory
@@ -155,7 +155,7 @@ module _ (chip : Chip) (s frame reply sums each : List ℕ)
 
   -- ---- from a power-on ----
 
-  module _ (d : Device) (same : d .chip ≡ chip) (o : Options) (code dat : List ℕ) (fit : Fit chip (memory code dat)) (a : Answered)
+  module _ (d : Device) (same : d .chip ≡ chip) (o : Options) (code dat : List ℕ) (fit : Fit chip (memory code dat)) (a : PoweredOn)
       (on : poweredAs a (memory code dat) ≡ powerOn (d .chip) (shows d (memory code dat)) o (memory code dat))
       (f : Fed) (held code1 dat1 out1 : List ℕ) (q : Played) (held2 code2 dat2 reply2 frame2 sums2 each2 : List ℕ) where
     abbrev now : State

@@ -2,12 +2,12 @@
 use mathlib.Core.Path.{_≡_, refl}
 use mathlib.Core.Bool.{true}
 use Rattle.rules.specs.Compute.{everything}
-use Rattle.rules.specs.Rows.{comesLast, exchanged, holds, allHold}
+use Rattle.rules.specs.Rows.{comesLast, stateAfter, exchanged, holds, allHold}
 use Rattle.rules.proofs.Rows.{All, Held, all-held}
 use Rattle.joined_blocks.specs.Values.{sevens, blockSessions}
 
 pub block-sessions : allHold blockSessions ≡ true
-unfolding everything comesLast exchanged holds allHold sevens blockSessions
+unfolding everything comesLast stateAfter exchanged holds allHold sevens blockSessions
 block-sessions = refl
 
 pub block-sessions-say : All Held blockSessions

@@ -43,7 +43,7 @@ use Rattle.rules.proofs.First.{applies, passed, none-applies}
 use Rattle.frame_judge.proofs.Checks.{framed}
 use Rattle.standin_verdict.proofs.Verdicts.{stopped, went-on}
 use Rattle.standin.proofs.Whole.{feed-frame, all-told}
-use Rattle.joined_laws.specs.Hears.{hears, pagesFor}
+use Rattle.joined_laws.specs.Hears.{hears, quiet, pagesFor}
 use Rattle.joined_laws.specs.Turns.{Sized}
 
 -- ---- a stand-in that waits for a command ----
@@ -91,7 +91,7 @@ fresh-command s p g = record { phase = p; listens = λ e. omega arith; moded = �
 
 module _ (chip : Chip) (s : State) (ph : Phase) (fresh : Fresh s ph) where
   pub hears-whole : (len : ℕ) (more : List ℕ) → let f = startOf (taskNow chip (s .phase) (s .task)) ∷ len ∷ more in
-      whole f ≡ true → hears chip s f ≡ onFrame chip (rest (s .phase) (s .task) (s .options) (s .memory)) f
+      whole f ≡ true → hears chip s f ≡ quiet (onFrame chip (rest (s .phase) (s .task) (s .options) (s .memory)) f)
   hears-whole len more all =
       let phase = fresh .phase in
       let f = startOf (taskNow chip (s .phase) (s .task)) ∷ len ∷ more in
@@ -100,7 +100,7 @@ module _ (chip : Chip) (s : State) (ph : Phase) (fresh : Fresh s ph) where
       ∙ ap (out (done .state)) (all-told (suc (length more)) (done .answer))
 
   pub hears-in : (task : Task) → taskNow chip (s .phase) (s .task) ≡ task → (end : ℕ) (body : List ℕ) → 1 ≤ length body → length body ≤ 256
-      → hears chip s (frame (startOf task) end body) ≡ onTask task chip (rest ph (s .task) (s .options) (s .memory)) (frame (startOf task) end body)
+      → hears chip s (frame (startOf task) end body) ≡ quiet (onTask task chip (rest ph (s .task) (s .options) (s .memory)) (frame (startOf task) end body))
   unfolding frame onFrame
   hears-in task t end body some most =
       let arrived = rw t at (hears-whole (lenByte body) (body ++ (sumByte body ∷ end ∷ []))) in
@@ -138,29 +138,29 @@ module _ (chip : Chip) (s : State) (ph : Phase) (fresh : Fresh s ph) (idle : tas
   abbrev sent : List ℕ
   sent = command (code ∷ info)
 
-  hears-command : hears chip s sent ≡ onCommand chip begun sent
+  hears-command : hears chip s sent ≡ quiet (onCommand chip begun sent)
   unfolding onTask
   hears-command = hears-in chip s ph fresh Idle idle lastEnd (code ∷ info) (omega arith) (omega arith)
 
   -- its information is an order, which is judged by its own rows
   module _ (order : Order) (is : readAs commands code chip sent ≡ Is order) where
-    hears-judged : hears chip s sent ≡ onJudged (unless (firstFault (orderChecks (s .options) (s .memory) sent order)) (Ordered order)) chip begun
+    hears-judged : hears chip s sent ≡ quiet (onJudged (unless (firstFault (orderChecks (s .options) (s .memory) sent order)) (Ordered order)) chip begun)
     unfolding onCommand judged judgedOrder
     hears-judged =
         let o = s .options in
         let m = s .memory in
         let read = ap (λ (k : ℕ). readAs commands k chip sent) (code-framed code info) ∙ is in
         let well = went-on Well (firstFault (frameChecks ph sent)) (sym (command-well code info ph few known)) (judgedOrder o m sent (decoded chip sent)) refl in
-        hears-command ∙ ap (λ (j : Judged). onJudged j chip begun) (sym well ∙ ap (judgedOrder o m sent) read)
+        hears-command ∙ ap (λ (j : Judged). quiet (onJudged j chip begun)) (sym well ∙ ap (judgedOrder o m sent) read)
 
-    pub hears-well : firstFault (orderChecks (s .options) (s .memory) sent order) ≡ Well → hears chip s sent ≡ done chip begun order
+    pub hears-well : firstFault (orderChecks (s .options) (s .memory) sent order) ≡ Well → hears chip s sent ≡ quiet (done chip begun order)
     unfolding onJudged
-    hears-well e = hears-judged ∙ ap (λ (j : Judged). onJudged j chip begun) (sym (went-on Well _ (sym e) (Ordered order) refl))
+    hears-well e = hears-judged ∙ ap (λ (j : Judged). quiet (onJudged j chip begun)) (sym (went-on Well _ (sym e) (Ordered order) refl))
 
-    pub hears-refused : (v : Fault) → (statusByte v ≡ 0x06 → ⊥) → firstFault (orderChecks (s .options) (s .memory) sent order) ≡ v → hears chip s sent ≡ refused v begun
+    pub hears-refused : (v : Fault) → (statusByte v ≡ 0x06 → ⊥) → firstFault (orderChecks (s .options) (s .memory) sent order) ≡ v → hears chip s sent ≡ quiet (refused v begun)
     unfolding onJudged
     hears-refused v n e =
-        hears-judged ∙ ap (λ (j : Judged). onJudged j chip begun) (sym (stopped v _ (sym e) (Ordered order) n))
+        hears-judged ∙ ap (λ (j : Judged). quiet (onJudged j chip begun)) (sym (stopped v _ (sym e) (Ordered order) n))
 
 -- three bytes hold an address of less than 2^24
 address-back : (a : Address) → a .0 < 16777216
@@ -217,7 +217,7 @@ module _ (chip : Chip) (sized : Sized chip) (s : State) (w : waits chip s ≡ tr
     hears-pair : (code : ℕ) (make : Flash → Block → Block → Order) → lookup rows code ≡ Row 7 3
         → readAs commands code chip (pairCommand code t) ≡ overBlocks make (range chip (sadOf (pairCommand code t)) (eadOf (pairCommand code t)))
         → orderChecks (s .options) (s .memory) (pairCommand code t) (make (t .flash) (t .first) (t .last)) ≡ []
-        → hears chip s (pairCommand code t) ≡ done chip (rest Command (s .task) (s .options) (s .memory)) (make (t .flash) (t .first) (t .last))
+        → hears chip s (pairCommand code t) ≡ quiet (done chip (rest Command (s .task) (s .options) (s .memory)) (make (t .flash) (t .first) (t .last)))
     hears-pair code make known reads free =
         hears-well chip s Command fresh-waiting (waiting-task chip s w) code (addressBytes (firstByte (t .flash) (t .first)) ++ addressBytes (lastByte (t .flash) (t .last))) (omega arith) known (make (t .flash) (t .first) (t .last)) (reads ∙ ap (overBlocks make) (pair-found code)) (ap firstFault free ∙ none-applies _)
 
@@ -259,7 +259,7 @@ module _ (chip : Chip) (s : State) (p : Pages) (body : List ℕ) (sized : length
   carried = body-framed dataStart (endDue (lastPage p)) body (omega arith) (omega arith)
 
   module _ (task : s .task ≡ Programming p) where
-    hears-written : hears chip s page ≡ onPage p now page
+    hears-written : hears chip s page ≡ quiet (onPage p now page)
     unfolding onTask taskNow
     hears-written =
         hears-in chip s Command (fresh-command s phase fresh) (Programming p) (rw (phase, task, there)) (endDue (lastPage p)) body (omega arith) (omega arith)
@@ -284,7 +284,7 @@ module _ (chip : Chip) (s : State) (p : Pages) (body : List ℕ) (sized : length
           hears-written ∙ rw (data-well (lastPage p) body sized, carried, eq-eqb (p .status) 0x06 fine, last)
 
   module _ (task : s .task ≡ Verifying p) where
-    hears-checked : hears chip s page ≡ onCompare p now page
+    hears-checked : hears chip s page ≡ quiet (onCompare p now page)
     unfolding onTask taskNow
     hears-checked =
         hears-in chip s Command (fresh-command s phase fresh) (Verifying p) (rw (phase, task, there)) (endDue (lastPage p)) body (omega arith) (omega arith)

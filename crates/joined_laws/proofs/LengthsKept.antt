@@ -13,7 +13,7 @@ use Rattle.rules.specs.declared.Options.{Options}
 use Rattle.rules.specs.declared.Phase.{Phase}
 use Rattle.rules.specs.declared.Phase.the-variants.{Mode, Speed, Ident, Command, Silent}
 use Rattle.rules.specs.declared.Order.{Order}
-use Rattle.rules.specs.declared.Order.the-variants.{Reset, Verify, Erase, Program, BaudRate, Identity, SecuritySet, SecurityGet, Release, WindowSet, WindowGet, Checksum}
+use Rattle.rules.specs.declared.Order.the-variants.{Reset, Verify, Erase, BlankCheck, Program, BaudRate, Identity, SecuritySet, SecurityGet, Release, WindowSet, WindowGet, Checksum}
 use Rattle.rules.specs.declared.Judged.{Judged}
 use Rattle.rules.specs.declared.Judged.the-variants.{Faulty, Ordered}
 use Rattle.rules.specs.declared.Pages.{Pages}
@@ -54,6 +54,7 @@ module _ (chip : Chip) (s : State) (fit : Fit chip (s .memory)) (f : List ℕ) w
   order-kept Reset i = fit
   order-kept (Verify g a b) i = fit
   order-kept (Erase g b) i = fit-erased chip (s .memory) fit g b i
+  order-kept (BlankCheck g a b tar) i = fit
   order-kept (Program g a b) i = fit
   order-kept BaudRate i = fit
   order-kept Identity i = fit

@@ -13,6 +13,7 @@ use Rattle.rules.specs.declared.Phase.the-variants.{Command}
 use Rattle.rules.specs.declared.Task.the-variants.{Idle}
 use Rattle.rules.specs.declared.Fault.{Fault}
 use Rattle.rules.specs.declared.Fault.the-variants.{NotBlank, Protected}
+use Rattle.rules.specs.declared.Note.the-variants.{Empty}
 use Rattle.rules.specs.declared.Order.the-variants.{Release}
 use Rattle.rules.specs.Chip.{Memory, byteAt, total, known, blankMemory, identOf}
 use Rattle.rules.specs.Options.{BTPR, SEPR, IDEN, IFPR, release}
@@ -59,7 +60,7 @@ module _ (chip : Chip) (s : State) (w : waits chip s ≡ true) where
   used : blankMemory m ≡ false → hears chip s releaseBytes ≡ out (rest Command Idle o m) (one 0x1B)
   unfolding commands rows lookup readAs orderChecks frame sumByte total
   used e =
-      hears-refused chip s Command fresh (waiting-task chip s w) 0xA2 [] (omega arith) refl Release refl NotBlank (λ z. omega arith)
+      hears-refused chip s Command fresh (waiting-task chip s w) 0xA2 [] (omega arith) refl Release refl (NotBlank Empty) (λ z. omega arith)
       (applies _ _ _ _ (ap not e))
 
   guarded : blankMemory m ≡ true → (eqb (SEPR o) 0 || eqb (BTPR o) 0) ≡ true → hears chip s releaseBytes ≡ out (rest Command Idle o m) (one 0x10)

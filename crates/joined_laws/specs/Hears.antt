@@ -12,6 +12,10 @@ use Rattle.rules.specs.Run.{allBytes}
 abbrev pub hears : Chip → State → List ℕ → Out
 hears chip s f = out (feed chip s f .state) (allBytes (feed chip s f .answers))
 
+-- what a frame comes to, but for its note: a play does not carry notes
+abbrev pub quiet : Out → Out
+quiet o = out (o .state) (o .answer)
+
 -- the pages that a step's write or verify command waits for
 abbrev pub pagesFor : Step → Pages
 pagesFor t = record { flash = t .flash; page = firstPage (t .flash) (t .first); left = stepPages t; status = 0x06 }

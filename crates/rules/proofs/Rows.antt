@@ -9,19 +9,21 @@ use borrow.Author.Tests.{eqb-true, eq-eqb}
 use Rattle.rules.specs.declared.Chip.{Chip}
 use Rattle.rules.specs.declared.Options.{Options}
 use Rattle.rules.specs.declared.Phase.the-variants.{Command}
+use Rattle.rules.specs.declared.Note.{Note}
+use Rattle.rules.specs.declared.Note.the-variants.{Empty}
 use Rattle.rules.specs.declared.Report.{Report}
 use Rattle.rules.specs.declared.Task.the-variants.{Idle}
 use Rattle.rules.specs.declared.numbers.Number.{Number}
 use Rattle.rules.specs.Chip.{Memory, small, same}
 use Rattle.rules.specs.Options.{freshOptions}
 use Rattle.rules.specs.Command.{phaseNumber}
-use Rattle.rules.specs.StandIn.{State, feed, powered, powerOn, byteCall, rest}
+use Rattle.rules.specs.StandIn.{State, Out, outs, powered, powerOn, byteCall, rest}
 use Rattle.rules.specs.Sheet.{verdict}
 use Rattle.rules.specs.Meaning.{Ended, meaning, stepFrames}
-use Rattle.rules.specs.Numbers.{callNumber, verdictNumber, nextNumber, statusNumber}
+use Rattle.rules.specs.Numbers.{noteNumbers, callNumber, verdictNumber, nextNumber, statusNumber}
 use Rattle.rules.specs.Player.{called}
 use Rattle.rules.specs.Run.{Joined, Ran, clean, joinedAtStart, run, waits}
-use Rattle.rules.specs.Rows.{sameNumber, sameOptions, sameMemory, alike, Exchange, Session, comesLast, exchanged, holds, allHold, Play, reports, noSums, noFrames, meant, ranTo, opened, plays, allPlay, Lending, lentMemory, lends, allLend, Calling, calls, allCall}
+use Rattle.rules.specs.Rows.{sameNumber, sameOptions, sameMemory, alike, Exchange, Session, gives, comesLast, stateAfter, exchanged, holds, allHold, Play, reports, noSums, noFrames, meant, ranTo, opened, plays, allPlay, Lending, lentMemory, lends, allLend, Calling, calls, allCall}
 use Rattle.rules.proofs.Bytes.{same-equal}
 use Rattle.rules.proofs.Choices.{both}
 
@@ -66,32 +68,44 @@ All P (x ∷ xs) = P x × All P xs
 
 -- ---- a session ----
 
--- the answer comes with the last byte sent, and with no earlier one
-abbrev pub ComesLast : List (List ℕ) → List ℕ → Type 0
-ComesLast [] due = [] ≡ due
-ComesLast (a ∷ []) due = a ≡ due
-ComesLast (a ∷ b ∷ later) due = (a ≡ []) × ComesLast (b ∷ later) due
+-- a byte's answer and note
+abbrev pub Gives : Out → List ℕ → Note → Type 0
+Gives o due note = (o .answer ≡ due) × (noteNumbers (o .note) ≡ noteNumbers note)
 
-comes-last : (answers : List (List ℕ)) (due : List ℕ) → comesLast answers due ≡ true → ComesLast answers due
+given : (o : Out) (due : List ℕ) (note : Note) → gives o due note ≡ true → Gives o due note
+given o due note e =
+    let p = both (same (o .answer) due) (same (noteNumbers (o .note)) (noteNumbers note)) e in
+    (same-equal (o .answer) due (p .0), same-equal (noteNumbers (o .note)) (noteNumbers note) (p .1))
+
+-- answer and note come with the last byte sent, and with no earlier one
+abbrev pub ComesLast : List Out → List ℕ → Note → Type 0
+ComesLast [] due note = ([] ≡ due) × ([] ≡ noteNumbers note)
+ComesLast (a ∷ []) due note = Gives a due note
+ComesLast (a ∷ b ∷ later) due note = Gives a [] Empty × ComesLast (b ∷ later) due note
+
+comes-last : (os : List Out) (due : List ℕ) (note : Note) → comesLast os due note ≡ true → ComesLast os due note
 unfolding comesLast
-comes-last [] due e = same-equal [] due e
-comes-last (a ∷ []) due e = same-equal a due e
-comes-last (a ∷ b ∷ later) due e =
-    let p = both (same a []) (comesLast (b ∷ later) due) e in
-    (same-equal a [] (p .0), comes-last (b ∷ later) due (p .1))
+comes-last [] due note e =
+    let p = both (same [] due) (same [] (noteNumbers note)) e in
+    (same-equal [] due (p .0), same-equal [] (noteNumbers note) (p .1))
+comes-last (a ∷ []) due note e = given a due note e
+comes-last (a ∷ b ∷ later) due note e =
+    let p = both (gives a [] Empty) (comesLast (b ∷ later) due note) e in
+    (given a [] Empty (p .0), comes-last (b ∷ later) due note (p .1))
 
--- and so does the answer to each that is sent
+-- and so do those of each that is sent
 abbrev pub Answered : Chip → State → List Exchange → Type 0
 Answered chip s [] = Unit {0}
-Answered chip s (x ∷ xs) = ComesLast (feed chip s (x .sent) .answers) (x .due) × Answered chip (feed chip s (x .sent) .state) xs
+Answered chip s (x ∷ xs) =
+    ComesLast (outs chip s (x .sent)) (x .due) (x .note) × Answered chip (stateAfter s (outs chip s (x .sent))) xs
 
 answered : (chip : Chip) (s : State) (xs : List Exchange) → exchanged chip s xs .right ≡ true → Answered chip s xs
 unfolding exchanged
 answered chip s [] e = tt
 answered chip s (x ∷ xs) e =
-    let fed = feed chip s (x .sent) in
-    let p = both (comesLast (fed .answers) (x .due)) (exchanged chip (fed .state) xs .right) e in
-    (comes-last (fed .answers) (x .due) (p .0), answered chip (fed .state) xs (p .1))
+    let os = outs chip s (x .sent) in
+    let p = both (comesLast os (x .due) (x .note)) (exchanged chip (stateAfter s os) xs .right) e in
+    (comes-last os (x .due) (x .note) (p .0), answered chip (stateAfter s os) xs (p .1))
 
 pub record Held (t : Session) : Type 0 where
   pub answers : Answered (t .chip) (powered (t .options) (t .memory)) (t .exchanges)

@@ -2,21 +2,22 @@
 use mathlib.Core.Path.{_≡_, refl}
 use mathlib.Core.Bool.{true}
 use Rattle.rules.specs.Compute.{everything}
-use Rattle.rules.specs.Rows.{comesLast, exchanged, holds, allHold, plays, allPlay, lends, allLend, calls, allCall}
+use Rattle.rules.specs.Rows.{comesLast, stateAfter, exchanged, holds, allHold, plays, allPlay, lends, allLend, calls, allCall}
 use Rattle.rules.specs.Starred.{starred}
 use Rattle.rules.specs.Trials.{further, sheets, lengths, playerCalls}
 use Rattle.rules.proofs.Rows.{All, Held, all-held, Played, all-played, Lent, all-lent, Answers, all-answer}
 use Rattle.rules.specs.Texts.{allPrint, printed, texts}
+use Rattle.rules.specs.Blank.{blankChecks}
 use Rattle.rules.specs.Chips.{chipLengths, chipSessions, chipSheets}
 
 -- THE STARRED TRIALS, 1 to 12
 pub starred-trials : allHold starred ≡ true
-unfolding everything comesLast exchanged holds allHold starred
+unfolding everything comesLast stateAfter exchanged holds allHold starred
 starred-trials = refl
 
 -- further sessions, trials 13 and 14 and every status byte among them
 pub further-sessions : allHold further ≡ true
-unfolding everything comesLast exchanged holds allHold further
+unfolding everything comesLast stateAfter exchanged holds allHold further
 further-sessions = refl
 
 -- sheets, trials 15 and 16 among them
@@ -44,12 +45,17 @@ unfolding everything lends allLend chipLengths
 chip-lengths = refl
 
 pub chip-sessions : allHold chipSessions ≡ true
-unfolding everything comesLast exchanged holds allHold chipSessions
+unfolding everything comesLast stateAfter exchanged holds allHold chipSessions
 chip-sessions = refl
 
 pub chip-sheets : allPlay chipSheets ≡ true
 unfolding everything plays allPlay chipSheets
 chip-sheets = refl
+
+-- M-100: Blank Check, and the notes
+pub blank-checks : allHold blankChecks ≡ true
+unfolding everything comesLast stateAfter exchanged holds allHold blankChecks
+blank-checks = refl
 
 -- ---- what the rows say ----
 
@@ -76,3 +82,6 @@ chip-sessions-say = all-held chipSessions chip-sessions
 
 pub chip-sheets-say : All Played chipSheets
 chip-sheets-say = all-played chipSheets chip-sheets
+
+pub blank-checks-say : All Held blankChecks
+blank-checks-say = all-held blankChecks blank-checks

@@ -51,6 +51,11 @@ unfoldable pub blank : List ℕ → Bool
 blank [] = true
 blank (x ∷ xs) = cond (eqb x blankByte) (blank xs) false
 
+-- 02, M-100: how many bytes stand before the first that is not FFh
+unfoldable pub blanksBefore : List ℕ → ℕ
+blanksBefore [] = 0
+blanksBefore (x ∷ xs) = cond (eqb x blankByte) (1 + blanksBefore xs) 0
+
 -- bytes put over the first of a lent buffer: "bytes after the answer's length keep their contents"
 unfoldable pub over : List ℕ → List ℕ → List ℕ
 over new old = new ++ drop (length new) old

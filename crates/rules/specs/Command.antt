@@ -1,9 +1,9 @@
 -- 01, Commands: the one table of commands, the verdict on a command frame in the order of the status table, and what an order does. Assumes nothing.
-use Prim.Native.Nat.{ℕ, _+_}
+use Prim.Native.Nat.{ℕ, _+_, _/_, _%_}
 use mathlib.Core.Bool.{Bool, false, cond, not, _&&_, _||_}
 use mathlib.Core.List.{List, [], _∷_, _++_, map}
-use lib.Dec.{leb, eqb}
-use lib.ListN.{take, drop}
+use lib.Dec.{ltb, leb, eqb}
+use lib.ListN.{length, take, drop}
 use Rattle.rules.specs.declared.Chip.{Chip}
 use Rattle.rules.specs.declared.Flash.{Flash}
 use Rattle.rules.specs.declared.Block.{Block}
@@ -21,17 +21,19 @@ use Rattle.rules.specs.declared.Task.the-variants.{Idle, Programming, Ve
 use Rattle.rules.specs.declared.CodeRow.{CodeRow}
 use Rattle.rules.specs.declared.CodeRow.the-variants.{Row, Unknown}
 use Rattle.rules.specs.declared.Order.{Order}
-use Rattle.rules.specs.declared.Order.the-variants.{Reset, Verify, Erase, Program, BaudRate, Identity, SecuritySet, SecurityGet, Release, WindowSet, WindowGet, Checksum}
+use Rattle.rules.specs.declared.Order.the-variants.{Reset, Verify, Erase, BlankCheck, Program, BaudRate, Identity, SecuritySet, SecurityGet, Release, WindowSet, WindowGet, Checksum}
 use Rattle.rules.specs.declared.Decoded.{Decoded}
 use Rattle.rules.specs.declared.Decoded.the-variants.{Is, Bad}
 use Rattle.rules.specs.declared.Judged.{Judged}
 use Rattle.rules.specs.declared.Judged.the-variants.{Faulty, Ordered}
 use Rattle.rules.specs.declared.Fault.{Fault}
+use Rattle.rules.specs.declared.Note.{Note}
+use Rattle.rules.specs.declared.Note.the-variants.{Empty, Used, Bits}
 use Rattle.rules.specs.declared.Fault.the-variants.{EndByte, Sum, Code, Length, Parameter, NotBlank, Protected}
 use Rattle.rules.specs.declared.Fault.the-variants as fault
 use Rattle.rules.specs.First.{Rule, rule, firstFault}
-use Rattle.rules.specs.Chip.{Memory, byteAt, wordAt, addressAt, wordBytes, same, identOf, identSize, blankMemory, eraseAddress, range, firstPage, pagesFrom, eraseBlock, bytesFrom, checksum}
-use Rattle.rules.specs.Options.{BTPR, SEPR, FSPR, IDEN, IFPR, shownSF1, shownSF2, shownSWS, shownSWE, securitySet, release, windowSet, eraseProtected}
+use Rattle.rules.specs.Chip.{Memory, byteAt, wordAt, addressAt, wordBytes, same, blank, identOf, identSize, blankMemory, blanksBefore, pageSize, block, blockSize, eraseAddress, range, firstPage, pagesFrom, eraseBlock, bytesFrom, checksum}
+use Rattle.rules.specs.Options.{BTPR, SEPR, FSPR, IDEN, IFPR, shownSF1, shownSF2, shownSWS, shownSWE, blankOptions, securitySet, release, windowSet, eraseProtected}
 use Rattle.rules.specs.Frame.{dataStart, lastEnd, frame, one, lenOf, endOf, sumHolds, statusByte}
 use Rattle.rules.specs.State.{State, Out, out, rest}
 
@@ -64,6 +66,14 @@ overBlocks order Invalid = Bad
 abbrev pub paired : (Flash → Block → Block → Order) → Reading
 paired order chip f = overBlocks order (range chip (sadOf f) (eadOf f))
 
+-- 001, table 6-17: "SAD, EAD, TAR", of which 00h and 01h are allowed
+abbrev pub tarOf : List ℕ → ℕ
+tarOf f = byteAt f 9
+
+abbrev pub targeted : Reading
+targeted chip f =
+    cond (leb (tarOf f) 1) (paired (λ g a b. BlankCheck g a b (tarOf f)) chip f) Bad
+
 -- "SAD": "Erase wants the first byte of a block"
 abbrev pub atBlock : Found → Decoded
 atBlock (In f b) = Is (Erase f b)
@@ -91,6 +101,9 @@ verifyCode = 0x13
 abbrev pub eraseCode : ℕ
 eraseCode = 0x22
 
+abbrev pub blankCheckCode : ℕ
+blankCheckCode = 0x32
+
 abbrev pub programmingCode : ℕ
 programmingCode = 0x40
 
@@ -117,6 +130,7 @@ commands =
     entry 0x00 1 Command (plain Reset)
     ∷ entry verifyCode 7 Command (paired Verify)
     ∷ entry eraseCode 4 Command single
+    ∷ entry blankCheckCode 8 Command targeted
     ∷ entry programmingCode 7 Command (paired Program)
     ∷ entry 0x9A 3 Speed rated
     ∷ entry identCode 11 Ident (plain Identity)
@@ -174,19 +188,33 @@ frameChecks phase f =
     ∷ rule Length (not (eqb (lenOf f) (lenDue (lookup rows (codeOf f)))))
     ∷ []
 
--- rows 6 to 8 are the order's: "ID differs"; "Release: some flash byte not FFh"; "protected block ..; Release with SEPR or BTPR 0;
+-- 02, M-100: "names the first byte that is not FFh by block and page (block in its flash, page in its block, from 0), with its flash, lowest
+-- address first": the byte that is i bytes behind the first of block a, where there is one in the range
+unfoldable pub usedFrom : Flash → Block → List ℕ → Note
+usedFrom f a bytes =
+    let i = blanksBefore bytes in
+    cond (ltb i (length bytes)) (Used f (block (a .0 + i / blockSize f)) (i % blockSize f / pageSize)) Empty
+
+abbrev pub usedIn : Memory → Flash → Block → Block → Note
+usedIn m f a b = usedFrom f a (bytesFrom m f a b)
+
+-- rows 6 to 8 are the order's: "ID differs"; "Release: some flash byte not FFh", and 02, M-100: "1Bh in place 7"; "protected block ..; Release with SEPR or BTPR 0;
 -- Window Set with FSPR 0"
 unfoldable pub orderChecks : Options → Memory → List ℕ → Order → List (Rule Fault)
 orderChecks o m f Reset = []
 orderChecks o m f (Verify g a b) = []
 orderChecks o m f (Erase g b) = rule Protected (eraseProtected o g b) ∷ []
+orderChecks o m f (BlankCheck g a b tar) =
+    rule (NotBlank (usedIn m g a b)) (not (blank (bytesFrom m g a b)))
+    ∷ rule (NotBlank Bits) (eqb tar 1 && not (blankOptions o))
+    ∷ []
 orderChecks o m f (Program g a b) = []
 orderChecks o m f BaudRate = []
 orderChecks o m f Identity = rule fault.Ident (not (same (take identSize (drop 3 f)) (identOf m))) ∷ []
 orderChecks o m f (SecuritySet sf1 sf2) = []
 orderChecks o m f SecurityGet = []
 orderChecks o m f Release =
-    rule NotBlank (not (blankMemory m)) ∷ rule Protected (eqb (SEPR o) 0 || eqb (BTPR o) 0) ∷ []
+    rule (NotBlank Empty) (not (blankMemory m)) ∷ rule Protected (eqb (SEPR o) 0 || eqb (BTPR o) 0) ∷ []
 orderChecks o m f (WindowSet sws swe) = rule Protected (eqb (FSPR o) 0) ∷ []
 orderChecks o m f WindowGet = []
 orderChecks o m f (Checksum g a b) = []
@@ -237,6 +265,7 @@ unfoldable pub done : Chip → State → Order → Out
 done chip s Reset = ackTask Idle s
 done chip s (Verify f a b) = ackTask (Verifying (pagesAwaited f a b)) s
 done chip s (Erase f b) = out (rest (s .phase) Idle (s .options) (eraseBlock (s .memory) f b)) ack
+done chip s (BlankCheck f a b tar) = ackTask Idle s
 done chip s (Program f a b) = ackTask (Programming (pagesAwaited f a b)) s
 done chip s BaudRate =
     out (rest (afterSpeed (s .options)) Idle (s .options) (s .memory))

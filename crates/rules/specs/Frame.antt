@@ -5,6 +5,8 @@ use mathlib.Core.List.{List, [], _∷_, _++_}
 use lib.Dec.{leb, eqb}
 use lib.ListN.{length, take, drop}
 use Rattle.rules.specs.declared.Fault.{Fault}
+use Rattle.rules.specs.declared.Note.{Note}
+use Rattle.rules.specs.declared.Note.the-variants.{Empty}
 use Rattle.rules.specs.declared.Fault.the-variants.{Well, EndByte, Sum, Code, Length, Parameter, Ident, NotBlank, Protected, PageNotBlank, Difference}
 use Rattle.rules.specs.First.{rule, firstFault}
 use Rattle.rules.specs.Chip.{byteAt, total}
@@ -83,10 +85,24 @@ statusByte Code = 0x04
 statusByte Length = 0x15
 statusByte Parameter = 0x05
 statusByte Ident = 0x24
-statusByte NotBlank = 0x1B
+statusByte (NotBlank n) = 0x1B
 statusByte Protected = 0x10
 statusByte PageNotBlank = 0x1C
 statusByte Difference = 0x0F
+
+-- 02, M-100: what the note tells of it
+abbrev pub noteOf : Fault → Note
+noteOf Well = Empty
+noteOf EndByte = Empty
+noteOf Sum = Empty
+noteOf Code = Empty
+noteOf Length = Empty
+noteOf Parameter = Empty
+noteOf Ident = Empty
+noteOf (NotBlank n) = n
+noteOf Protected = Empty
+noteOf PageNotBlank = Empty
+noteOf Difference = Empty
 
 -- a data frame: 15h also "03h for 17h or the reverse"; then SUM; then "data LEN not 00h"
 unfoldable pub dataFault : Bool → List ℕ → Fault

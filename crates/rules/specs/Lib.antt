@@ -18,3 +18,4 @@ pub mod Starred
 pub mod Trials
 pub mod Texts
 pub mod Chips
+pub mod Blank

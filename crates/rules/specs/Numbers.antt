@@ -1,5 +1,6 @@
 -- 01's own number or value for each case of an enum that is an answer. Assumes nothing.
 use Prim.Native.Nat.{ℕ}
+use mathlib.Core.List.{List, [], _∷_}
 use Rattle.rules.specs.declared.numbers.Number.{Number}
 use Rattle.rules.specs.declared.Refusal.{Refusal}
 use Rattle.rules.specs.declared.Refusal.the-variants.{D0, D1, D2, D3, J1, J2, J3, J4, J5, J6, J7, J8, J9, J10, P1, P2}
@@ -11,6 +12,10 @@ use Rattle.rules.specs.declared.Next.{Next}
 use Rattle.rules.specs.declared.Next.the-variants as next
 use Rattle.rules.specs.declared.Status.{Status}
 use Rattle.rules.specs.declared.Status.the-variants.{Byte, L1}
+use Rattle.rules.specs.declared.Flash.{Flash}
+use Rattle.rules.specs.declared.Flash.the-variants.{Code, Data}
+use Rattle.rules.specs.declared.Note.{Note}
+use Rattle.rules.specs.declared.Note.the-variants.{Empty, Used, Bits}
 use Rattle.rules.specs.declared.Kind.{Kind}
 use Rattle.rules.specs.declared.Kind.the-variants.{Erase, Write, Verify, Sum}
 
@@ -63,3 +68,13 @@ kindNumber Erase = 1
 kindNumber Write = 2
 kindNumber Verify = 3
 kindNumber Sum = 4
+
+-- 02, M-100: what a note says, in numbers: which note it is, then its flash (0 code, 1 data), block and page
+abbrev pub flashNumber : Flash → ℕ
+flashNumber Code = 0
+flashNumber Data = 1
+
+abbrev pub noteNumbers : Note → List ℕ
+noteNumbers Empty = []
+noteNumbers (Used f b k) = 1 ∷ flashNumber f ∷ b .0 ∷ k ∷ []
+noteNumbers Bits = 2 ∷ []

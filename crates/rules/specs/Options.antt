@@ -88,6 +88,20 @@ release o =
       swe = releasedWord (o .swe);
     }
 
+-- 001, table 6-17, TAR 01h: the option bits counted in, all 1. BTFLG reads 1 and IFPR is judged blank whatever it is, so neither is asked
+unfoldable pub blankOptions : Options → Bool
+blankOptions o =
+    eqb (BTPR o) 1
+    && eqb (SEPR o) 1
+    && eqb (WRPR o) 1
+    && eqb (IDEN o) 1
+    && eqb (SWPR o) 1
+    && eqb (CMPR o) 1
+    && eqb (FSWS o .0) 511
+    && eqb (FSPR o) 1
+    && eqb (FSWE o .0) 511
+    && eqb (FSWC o) 1
+
 -- "Window Set stores its named bits": bits 8 to 0 and bit 15 of each word
 abbrev pub windowWord : ℕ → ℕ → ℕ
 windowWord sent old = withBit 15 (bit 15 sent) (old / 512 * 512 + sent % 512)

@@ -9,6 +9,8 @@ use Rattle.rules.specs.declared.Flash.the-variants.{Data}
 use Rattle.rules.specs.declared.Options.{Options}
 use Rattle.rules.specs.declared.Phase.the-variants.{Command}
 use Rattle.rules.specs.declared.Task.the-variants.{Idle}
+use Rattle.rules.specs.declared.Note.{Note}
+use Rattle.rules.specs.declared.Note.the-variants.{Empty}
 use Rattle.rules.specs.declared.Player.{Player}
 use Rattle.rules.specs.declared.Report.{Report}
 use Rattle.rules.specs.declared.numbers.Number.{Number}
@@ -16,10 +18,10 @@ use Rattle.rules.specs.Chip.{Memory, small, same, freshMemory, putPage, 
 use Rattle.rules.specs.Options.{freshOptions}
 use Rattle.rules.specs.Frame.{commandStart, dataStart, lastEnd, frame, sumByte}
 use Rattle.rules.specs.Command.{phaseNumber}
-use Rattle.rules.specs.StandIn.{State, feed, powered, powerOn, byteCall, rest}
+use Rattle.rules.specs.StandIn.{State, Out, outs, feed, powered, powerOn, byteCall, rest}
 use Rattle.rules.specs.Sheet.{verdict}
 use Rattle.rules.specs.Meaning.{Ended, meaning, stepFrames}
-use Rattle.rules.specs.Numbers.{callNumber, verdictNumber, nextNumber, statusNumber}
+use Rattle.rules.specs.Numbers.{noteNumbers, callNumber, verdictNumber, nextNumber, statusNumber}
 use Rattle.rules.specs.Player.{called}
 use Rattle.rules.specs.Run.{Joined, clean, joinedAtStart, run, waits}
 
@@ -55,14 +57,18 @@ abbrev pub alike : Bool → Bool → Bool
 alike true b = b
 alike false b = cond b false true
 
--- ---- a session: stored options and flash, power-on, what is sent and the answer due to it, and what stands afterwards ----
+-- ---- a session: stored options and flash, power-on, what is sent with the answer and the note due to it, and what stands afterwards ----
 
 pub record Exchange : Type 0 where
   pub sent : List ℕ
   pub due : List ℕ
+  pub note : Note
+
+abbrev pub toNoted : List ℕ → List ℕ → Note → Exchange
+toNoted sent due note = record { sent = sent; due = due; note = note }
 
 abbrev pub to : List ℕ → List ℕ → Exchange
-to sent due = record { sent = sent; due = due }
+to sent due = toNoted sent due Empty
 
 pub record Session : Type 0 where
   pub chip : Chip
@@ -74,11 +80,20 @@ pub record Session : Type 0 where
   pub optionsAfter : Options
   pub memoryAfter : Memory
 
--- the answer comes with the last byte sent, and with no earlier one
-unfoldable pub comesLast : List (List ℕ) → List ℕ → Bool
-comesLast [] due = same [] due
-comesLast (a ∷ []) due = same a due
-comesLast (a ∷ b ∷ later) due = same a [] && comesLast (b ∷ later) due
+-- a byte's answer and note
+abbrev pub gives : Out → List ℕ → Note → Bool
+gives o due note = same (o .answer) due && same (noteNumbers (o .note)) (noteNumbers note)
+
+-- answer and note come with the last byte sent, and with no earlier one
+unfoldable pub comesLast : List Out → List ℕ → Note → Bool
+comesLast [] due note = same [] due && same [] (noteNumbers note)
+comesLast (a ∷ []) due note = gives a due note
+comesLast (a ∷ b ∷ later) due note = gives a [] Empty && comesLast (b ∷ later) due note
+
+-- the state after them
+unfoldable pub stateAfter : State → List Out → State
+stateAfter s [] = s
+stateAfter s (o ∷ os) = stateAfter (o .state) os
 
 pub record Exchanged : Type 0 where
   pub state : State
@@ -87,9 +102,9 @@ pub record Exchanged : Type 0 where
 unfoldable pub exchanged : Chip → State → List Exchange → Exchanged
 exchanged chip s [] = record { state = s; right = true }
 exchanged chip s (x ∷ xs) =
-    let fed = feed chip s (x .sent) in
-    let later = exchanged chip (fed .state) xs in
-    record { state = later .state; right = comesLast (fed .answers) (x .due) && later .right }
+    let os = outs chip s (x .sent) in
+    let later = exchanged chip (stateAfter s os) xs in
+    record { state = later .state; right = comesLast os (x .due) (x .note) && later .right }
 
 unfoldable pub holds : Session → Bool
 holds t =

@@ -17,6 +17,8 @@ use Rattle.rules.specs.declared.Judged.the-variants.{Faulty, Ordered}
 use Rattle.rules.specs.declared.Fault.{Fault}
 use Rattle.rules.specs.declared.Fault.the-variants.{Well, EndByte, Sum, Length, Parameter, NotBlank, Protected, PageNotBlank, Difference}
 use Rattle.rules.specs.declared.Fault.the-variants as fault
+use Rattle.rules.specs.declared.Note.{Note}
+use Rattle.rules.specs.declared.Note.the-variants.{Empty}
 use Rattle.rules.specs.declared.Call.{Call}
 use Rattle.rules.specs.declared.Call.the-variants.{Refused, Answer}
 use Rattle.rules.specs.declared.Refusal.the-variants.{D0, D1, D2, D3}
@@ -25,9 +27,9 @@ use Rattle.rules.specs.declared.Verdict.the-variants as verdict
 use Rattle.rules.specs.First.{rule, firstFault, refuse, firstBroken, andThen}
 use Rattle.rules.specs.Chip.{Memory, known, flashSize, same, blank, over, pages, pageOf, putPage, blockOfPage}
 use Rattle.rules.specs.Options.{IFPR, writeProtected}
-use Rattle.rules.specs.Frame.{commandStart, dataStart, frameSize, one, pair, lenOf, bodyOf, whole, statusByte, dataFault}
+use Rattle.rules.specs.Frame.{commandStart, dataStart, frameSize, one, pair, lenOf, bodyOf, whole, statusByte, noteOf, dataFault}
 use Rattle.rules.specs.Command.{judged, done}
-pub use Rattle.rules.specs.State.{State, Out, Effect, out, rest}
+pub use Rattle.rules.specs.State.{State, Out, Effect, out, noted, rest}
 
 -- ---- a whole frame ----
 
@@ -40,7 +42,7 @@ silences fault.Code = false
 silences Length = true
 silences Parameter = true
 silences fault.Ident = true
-silences NotBlank = false
+silences (NotBlank n) = false
 silences Protected = false
 silences PageNotBlank = false
 silences Difference = false
@@ -53,7 +55,8 @@ phaseAfter Command v = Command
 phaseAfter Silent v = Silent
 
 abbrev pub refused : Fault → State → Out
-refused v s = out (rest (phaseAfter (s .phase) v) Idle (s .options) (s .memory)) (one (statusByte v))
+refused v s =
+    noted (noteOf v) (out (rest (phaseAfter (s .phase) v) Idle (s .options) (s .memory)) (one (statusByte v)))
 
 -- a command frame, judged
 unfoldable pub onJudged : Judged → Chip → State → Out
@@ -222,19 +225,21 @@ unfoldable pub powerOn : Chip → State → Options → Memory → Powered
 unfolding powerBy
 powerOn chip given o m = powerBy (flashVerdict chip (length (m .code)) (length (m .«data»))) given o m
 
--- the state, the call's answer and the reply buffer after a call
+-- the state, the call's answer, the reply buffer after a call, and the note
 pub record Outcome : Type 0 where
   pub state : State
   pub call : Call
   pub reply : List ℕ
+  pub note : Note
 
 abbrev pub answered : Out → List ℕ → Outcome
-answered o reply = record { state = o .state; call = Answer (length (o .answer)); reply = over (o .answer) reply }
+answered o reply =
+    record { state = o .state; call = Answer (length (o .answer)); reply = over (o .answer) reply; note = o .note }
 
 -- "the byte is not taken and state and buffers stand"
 unfoldable pub byteBy : Verdict → Chip → State → List ℕ → ℕ → Outcome
 byteBy verdict.Accepted chip s reply b = answered (step chip s b) reply
-byteBy (verdict.Refused n) chip s reply b = record { state = s; call = Refused n; reply = reply }
+byteBy (verdict.Refused n) chip s reply b = record { state = s; call = Refused n; reply = reply; note = Empty }
 
 -- THE BYTE CALL
 unfoldable pub byteCall : Chip → State → List ℕ → ℕ → Outcome
@@ -247,6 +252,11 @@ unfoldable pub received : ℕ → List ℕ → List ℕ
 received n buffer = cond (ltb n 2 || ltb n (frameSize (lenOf buffer))) (take n buffer) []
 
 -- ---- many bytes ----
+
+-- what each byte comes to, one after the other
+unfoldable pub outs : Chip → State → List ℕ → List Out
+outs chip s [] = []
+outs chip s (b ∷ bs) = let o = step chip s b in o ∷ outs chip (o .state) bs
 
 -- the answers one after the other, and the state after them
 pub record Fed : Type 0 where

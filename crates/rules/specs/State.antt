@@ -5,6 +5,8 @@ use Rattle.rules.specs.declared.Chip.{Chip}
 use Rattle.rules.specs.declared.Options.{Options}
 use Rattle.rules.specs.declared.Phase.{Phase}
 use Rattle.rules.specs.declared.Task.{Task}
+use Rattle.rules.specs.declared.Note.{Note}
+use Rattle.rules.specs.declared.Note.the-variants.{Empty}
 use Rattle.rules.specs.Chip.{Memory}
 
 -- the stand-in: phase, command begun, options, bytes of the frame in hand, both flashes
@@ -15,13 +17,18 @@ pub record State : Type 0 where
   pub got : List ℕ
   pub memory : Memory
 
--- a state, and the bytes answered
+-- a state, the bytes answered, and the stand-in's own note, off the wire (02, M-100)
 pub record Out : Type 0 where
   pub state : State
   pub answer : List ℕ
+  pub note : Note
 
+-- "in every other case the note is empty"
 abbrev pub out : State → List ℕ → Out
-out s a = record { state = s; answer = a }
+out s a = record { state = s; answer = a; note = Empty }
+
+abbrev pub noted : Note → Out → Out
+noted n o = record { state = o .state; answer = o .answer; note = n }
 
 -- "the receiver starts afresh": nothing received
 abbrev pub rest : Phase → Task → Options → Memory → State

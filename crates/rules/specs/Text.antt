@@ -15,6 +15,10 @@ use Rattle.rules.specs.declared.Kind.the-variants.{Erase, Write, Verify,
 use Rattle.rules.specs.declared.Status.{Status}
 use Rattle.rules.specs.declared.Status.the-variants.{Byte, L1}
 use Rattle.rules.specs.declared.Report.{Report}
+use Rattle.rules.specs.declared.Flash.{Flash}
+use Rattle.rules.specs.declared.Flash.the-variants.{Code, Data}
+use Rattle.rules.specs.declared.Note.{Note}
+use Rattle.rules.specs.declared.Note.the-variants.{Empty, Used, Bits}
 use Rattle.rules.specs.Sheet.{count, stepAt}
 use Rattle.rules.specs.Numbers.{refusalNumber}
 
@@ -83,6 +87,16 @@ refusedLine n =
 -- of a stand-in that does not wait for a command: the refusal that has no number
 abbrev pub busyLine : List ℕ
 busyLine = ascii "refused busy\n"
+
+-- 02, M-100: the line of a note; none where it is empty
+unfoldable pub flashText : Flash → List ℕ
+flashText Code = ascii "code"
+flashText Data = ascii "data"
+
+unfoldable pub noteLine : Note → List ℕ
+noteLine Empty = []
+noteLine (Used f b k) = ascii "note " ++ flashText f ++ ascii " " ++ decimal (b .0) ++ ascii " " ++ decimal k ++ ascii "\n"
+noteLine Bits = ascii "note options\n"
 
 -- ---- a play: the sheet, the report, the list of sums, and the list of the frames sent for each step ----
 

@@ -232,7 +232,8 @@ further =
     -- the status bytes not met above: end byte, SUM and code of a command; LEN not the command's; an erase address inside a block
     ∷ onFresh (0x01 ∷ 0x01 ∷ 0x00 ∷ 0xFF ∷ 0x17 ∷ []) (one 0x15)
     ∷ onFresh (0x01 ∷ 0x01 ∷ 0x00 ∷ 0x00 ∷ 0x03 ∷ []) (one 0x07)
-    ∷ onFresh (command (0x32 ∷ [])) (one 0x04)
+    ∷ onFresh (command (0x55 ∷ [])) (one 0x04)
+    ∷ onFresh (command (0x32 ∷ [])) (one 0x15)
     ∷ onFresh (command (0x00 ∷ 0x00 ∷ [])) (one 0x15)
     ∷ onFresh (command (0x22 ∷ 0x01 ∷ 0x00 ∷ 0x00 ∷ [])) (one 0x05)
     -- bytes before the start byte are skipped; LEN 00h is 256 bytes

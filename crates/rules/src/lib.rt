@@ -73,11 +73,12 @@ pub enum CodeRow {
     Unknown,
 }
 
-// A command whose information is read: the blocks, flags and words that it names. The ten bytes of an ID stay in its frame.
+// A command whose information is read: the blocks, flags and words that it names, and TAR. The ten bytes of an ID stay in its frame.
 pub enum Order {
     Reset,
     Verify(Flash, Block, Block),
     Erase(Flash, Block),
+    BlankCheck(Flash, Block, Block, u8),
     Program(Flash, Block, Block),
     BaudRate,
     Identity,
@@ -95,7 +96,15 @@ pub enum Decoded {
     Bad,
 }
 
-// The verdict on a frame: the first row of 01's status table that applies.
+// The stand-in's own note, off the wire, on one byte: nothing; the first byte in use, by its flash, its block there and its page in the block; or
+// an option bit that is not 1.
+pub enum Note {
+    Empty,
+    Used(Flash, Block, usize),
+    Bits,
+}
+
+// The verdict on a frame: the first row of 01's status table that applies, with what the note tells of it.
 pub enum Fault {
     Well,
     EndByte,
@@ -104,7 +113,7 @@ pub enum Fault {
     Length,
     Parameter,
     Ident,
-    NotBlank,
+    NotBlank(Note),
     Protected,
     PageNotBlank,
     Difference,

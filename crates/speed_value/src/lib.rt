@@ -25,7 +25,8 @@ pub extern "C" fn rattle_by_value(
     for i in 0..bytes.len() {
         let t = byte_call(d, bytes[i], code, data, reply);
         d = t.device;
-        let call = t.call;
+        let said = t.answer;
+        let call = said.call;
         sum = answered(sum, call, &*reply, shown);
     }
     sum

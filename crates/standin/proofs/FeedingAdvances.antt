@@ -8,6 +8,7 @@ use lib.Seq.{drop-cons}
 use Rattle.rules.specs.declared.Chip.{Chip}
 use Rattle.rules.specs.declared.Call.{Call}
 use Rattle.rules.specs.declared.Call.the-variants.{Refused, Answer}
+use Rattle.rules.specs.declared.Note.{Note}
 use Rattle.rules.specs.declared.Refusal.{Refusal}
 use Rattle.rules.specs.declared.Verdict.the-variants as v
 use Rattle.rules.specs.Numbers.{callNumber}
@@ -33,8 +34,8 @@ module _ (chip : Chip) (s : State) (out : List ℕ) (w i : ℕ) where
   one-more b bs o e = rw e
 
   -- the call of byte i came to that
-  module _ (bytes : List ℕ) (h : i < length bytes) (t : State) (call : Call) (reply : List ℕ)
-      (came-so : callOutcome t call reply ≡ byteCall chip s (drop w out) (getD bytes i 0)) where
+  module _ (bytes : List ℕ) (h : i < length bytes) (t : State) (call : Call) (note : Note) (reply : List ℕ)
+      (came-so : callOutcome t call note reply ≡ byteCall chip s (drop w out) (getD bytes i 0)) where
     byte-i : drop i bytes ≡ getD bytes i 0 ∷ drop (i + 1) bytes
     byte-i = drop-cons bytes i 0 h ∙ rw (← add-one i)
 
@@ -42,7 +43,7 @@ module _ (chip : Chip) (s : State) (out : List ℕ) (w i : ℕ) where
         → feedFrom chip t (take w out ++ reply) (w + k) (i + 1) (drop (i + 1) bytes) ≡ feedFrom chip s out w i (drop i bytes)
     fed-on k e =
         ap (λ (c : Call). goesOn c (feeding t c i (take w out ++ reply)) (λ j. feedFrom chip t (take w out ++ reply) (w + j) (i + 1) (drop (i + 1) bytes))) (sym e)
-        ∙ one-more (getD bytes i 0) (drop (i + 1) bytes) (callOutcome t call reply) came-so
+        ∙ one-more (getD bytes i 0) (drop (i + 1) bytes) (callOutcome t call note reply) came-so
         ∙ ap (feedFrom chip s out w i) (sym byte-i)
 
     pub fed-stop : (r : Refusal) → call ≡ Refused r
@@ -50,7 +51,7 @@ module _ (chip : Chip) (s : State) (out : List ℕ) (w i : ℕ) where
     fed-stop r e =
         ap (λ (c : Call). feeding t c i (take w out ++ reply)) e
         ∙ ap (λ (c : Call). goesOn c (feeding t c i (take w out ++ reply)) (λ j. feedFrom chip t (take w out ++ reply) (w + j) (i + 1) (drop (i + 1) bytes))) (sym e)
-        ∙ one-more (getD bytes i 0) (drop (i + 1) bytes) (callOutcome t call reply) came-so
+        ∙ one-more (getD bytes i 0) (drop (i + 1) bytes) (callOutcome t call note reply) came-so
         ∙ ap (feedFrom chip s out w i) (sym byte-i)
 
     -- an answer has room in what is left of the buffer

@@ -3,6 +3,7 @@ use mathlib.Core.Path.{_≡_, sym, ap, _∙_}
 use mathlib.Core.List.{List}
 use Prim.Native.Nat.{ℕ}
 use Rattle.rules.specs.declared.Call.{Call}
+use Rattle.rules.specs.declared.Note.{Note}
 use Rattle.rules.specs.StandIn.{State, Outcome, Powered}
 use Rattle.standin_engine.specs.View.{callOutcome}
 use Rattle.standin.specs.Feeding.{Feeding, feeding}
@@ -26,13 +27,17 @@ agree s t e =
     }
 
 -- a byte call
-pub one-answer : (due : Outcome) (s t : State) (a b : Call) (x y : List ℕ)
-    → callOutcome s a x ≡ due
-    → callOutcome t b y ≡ due
-    → (a ≡ b) × Agree s t × (x ≡ y)
-one-answer due s t a b x y p q =
-    let e = p ∙ sym q in
-    (ap (λ (o : Outcome). o .call) e, agree s t (ap (λ (o : Outcome). o .state) e), ap (λ (o : Outcome). o .reply) e)
+pub one-answer : (due : Outcome) (s t : State) (a b : Call) (m n : Note) (x y : List ℕ)
+    → callOutcome s a m x ≡ due
+    → callOutcome t b n y ≡ due
+    → (a ≡ b) × Agree s t × (x ≡ y) × (m ≡ n)
+one-answer due s t a b m n x y p q =
+    let e = p ∙ sym q in (
+      ap (λ (o : Outcome). o .call) e,
+      agree s t (ap (λ (o : Outcome). o .state) e),
+      ap (λ (o : Outcome). o .reply) e,
+      ap (λ (o : Outcome). o .note) e,
+    )
 
 -- a power-on
 pub one-power : (due : Powered) (s t : State) (a b : Call)

@@ -5,12 +5,13 @@ use rules::Options;
 use rules::Phase;
 use rules::Task;
 use rules::Verdict;
+use standin_engine::ByteAnswer;
 use standin_state::Core;
 ghost use mathlib.Core.Path.{_≡_};
 ghost use Rattle.rules.specs.declared.Phase.the-variants.{Silent};
 ghost use Rattle.rules.specs.declared.Task.the-variants.{Idle};
 ghost use Rattle.rules.specs.Chip.{Memory};
-ghost use Rattle.rules.specs.Numbers.{callNumber};
+ghost use Rattle.rules.specs.Numbers.{callNumber, noteNumbers};
 ghost use Rattle.rules.specs.Options.{freshOptions};
 ghost use Rattle.rules.specs.StandIn.{byteCall, powerOn, rest};
 ghost use Rattle.chip_finder.specs.LentFlashes.{memory};
@@ -24,8 +25,14 @@ pub struct Device {
     pub held: [u8; 260],
 }
 
-// The record after a call, and what the call answered.
+// The record after a byte call, and what the call answered.
 pub struct Answered {
+    pub device: Device,
+    pub answer: ByteAnswer,
+}
+
+// The record after a power-on, and what that answered.
+pub struct PoweredOn {
     pub device: Device,
     pub call: Call,
 }
@@ -48,7 +55,7 @@ pub fn off(chip: Chip) -> Device
 }
 
 // Power-on, with options and flash as they stand; refused, the record given comes back.
-pub fn power_on(d: Device, o: Options, code: &[u8], data: &[u8]) -> Answered
+pub fn power_on(d: Device, o: Options, code: &[u8], data: &[u8]) -> PoweredOn
     ensures { λ r. ⌜ r .device .chip ≡ d .chip ⌝ }
     ensures { λ r. ⌜ poweredAs r (memory (now (code .entry)) (now («data» .entry))) ≡ powerOn (d .chip) (shows d (memory (now (code .entry)) (now («data» .entry)))) o (memory (now (code .entry)) (now («data» .entry))) ⌝ }
     ensures { λ r. ⌜ callNumber (r .call) ≡ callNumber (powerOn (d .chip) (shows d (memory (now (code .entry)) (now («data» .entry)))) o (memory (now (code .entry)) (now («data» .entry))) .call) ⌝ }
@@ -60,7 +67,7 @@ pub fn power_on(d: Device, o: Options, code: &[u8], data: &[u8]) -> Answered
         code.len(),
         data.len(),
     ) {
-        return Answered {
+        return PoweredOn {
             device: d,
             call: Call::Refused(refusal),
         };
@@ -68,7 +75,7 @@ pub fn power_on(d: Device, o: Options, code: &[u8], data: &[u8]) -> Answered
     let mut e = d;
     let core = standin_state::resting::powered(o);
     e.core = core;
-    Answered {
+    PoweredOn {
         device: e,
         call: Call::Answer(0),
     }
@@ -84,8 +91,9 @@ pub fn byte_call(
 ) -> Answered
     ensures { λ r. ⌜ r .device .chip ≡ d .chip ⌝ }
     ensures { λ r. ⌜ answeredAs r (memory (now (code .exit)) (now («data» .exit))) (now (reply .exit)) ≡ byteCall (d .chip) (shows d (memory (now (code .entry)) (now («data» .entry)))) (now (reply .entry)) byte ⌝ }
-    ensures { λ r. ⌜ callNumber (r .call) ≡ callNumber (byteCall (d .chip) (shows d (memory (now (code .entry)) (now («data» .entry)))) (now (reply .entry)) byte .call) ⌝ }
-    ensures { λ r. ⌜ Stands (callNumber (r .call)) d (r .device) ⌝ }
+    ensures { λ r. ⌜ callNumber (r .answer .call) ≡ callNumber (byteCall (d .chip) (shows d (memory (now (code .entry)) (now («data» .entry)))) (now (reply .entry)) byte .call) ⌝ }
+    ensures { λ r. ⌜ noteNumbers (r .answer .note) ≡ noteNumbers (byteCall (d .chip) (shows d (memory (now (code .entry)) (now («data» .entry)))) (now (reply .entry)) byte .note) ⌝ }
+    ensures { λ r. ⌜ Stands (callNumber (r .answer .call)) d (r .device) ⌝ }
 {
     let mut e = d;
     let chip = e.chip;
@@ -93,9 +101,9 @@ pub fn byte_call(
     let t = standin_engine::byte_core(chip, c, byte, &mut e.held, code, data, reply);
     let n = t.core;
     e.core = n;
-    let call = t.call;
+    let answer = t.answer;
     Answered {
         device: e,
-        call: call,
+        answer: answer,
     }
 }

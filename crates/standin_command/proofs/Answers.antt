@@ -13,14 +13,15 @@ use Rattle.rules.specs.declared.Phase.{Phase}
 use Rattle.rules.specs.declared.Phase.the-variants.{Silent}
 use Rattle.rules.specs.declared.Task.{Task}
 use Rattle.rules.specs.declared.Task.the-variants.{Idle}
+use Rattle.rules.specs.declared.Note.{Note}
 use Rattle.rules.specs.declared.Order.{Order}
-use Rattle.rules.specs.declared.Order.the-variants.{Reset, Verify, Erase, Program, BaudRate, Identity, SecuritySet, SecurityGet, Release, WindowSet, WindowGet, Checksum}
+use Rattle.rules.specs.declared.Order.the-variants.{Reset, Verify, Erase, BlankCheck, Program, BaudRate, Identity, SecuritySet, SecurityGet, Release, WindowSet, WindowGet, Checksum}
 use Rattle.rules.specs.declared.Judged.{Judged}
 use Rattle.rules.specs.declared.Judged.the-variants.{Faulty, Ordered}
 use Rattle.rules.specs.Chip.{Memory, over}
 use Rattle.rules.specs.Options.{IFPR}
 use Rattle.rules.specs.Frame.{dataStart, lastEnd, frame, one, statusByte}
-use Rattle.rules.specs.State.{State, Out, out, rest}
+use Rattle.rules.specs.State.{State, Out, out, noted, rest}
 use Rattle.rules.specs.Command.{ack, ackOptions, secured, done, judged}
 use Rattle.rules.specs.StandIn.{onJudged, onCommand}
 use Rattle.frame_build.specs.Buffer.{put, putBytes, putAckAnd}
@@ -54,6 +55,7 @@ unfolding done
 done-short chip s Reset = one-short 0x06
 done-short chip s (Verify f a b) = one-short 0x06
 done-short chip s (Erase f b) = one-short 0x06
+done-short chip s (BlankCheck f a b tar) = one-short 0x06
 done-short chip s (Program f a b) = one-short 0x06
 done-short chip s BaudRate = omega (arith, length-frame dataStart lastEnd (0x06 ∷ 0x20 ∷ 0x00 ∷ []))
 done-short chip s Identity = one-short 0x06
@@ -90,12 +92,12 @@ told-put body b l h r =
 
 -- ---- the device and the buffer after an outcome ----
 
-pub comes : (r : Core) (n : ℕ) (ph : Phase) (t : Task) (o : Options) (m : Memory) (a new old : List ℕ)
+pub comes : (r : Core) (n : ℕ) (note : Note) (ph : Phase) (t : Task) (o : Options) (m : Memory) (a new old : List ℕ)
     → r ≡ resting ph t o
     → put n new ≡ putBytes a old
     → Short a → 16 ≤ length old
-    → Comes (record { core = r; answered = n }) m new (out (rest ph t o m) a) old
-comes r n ph t o m a new old e p h room =
+    → Comes (record { core = r; answered = n; note = note }) m new (noted note (out (rest ph t o m) a)) old
+comes r n note ph t o m a new old e p h room =
     let q = p ∙ bytes-fit a old (omega arith) in
     (rw (e, count-put _ _ q, buffer-put _ _ q), ap (λ (c : Core). c .have) e)
 

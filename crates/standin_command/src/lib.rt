@@ -14,8 +14,8 @@ ghost use Prim.Native.Nat.{_≤_};
 ghost use lib.ListN.{length};
 ghost use Rattle.rules.specs.declared.Task.the-variants.{Idle};
 ghost use Rattle.rules.specs.Chip.{Memory};
-ghost use Rattle.rules.specs.Frame.{one, statusByte};
-ghost use Rattle.rules.specs.StandIn.{out, rest, silences, phaseAfter, onCommand, lentVerdict};
+ghost use Rattle.rules.specs.Frame.{one, statusByte, noteOf};
+ghost use Rattle.rules.specs.StandIn.{out, noted, rest, silences, phaseAfter, onCommand, lentVerdict};
 ghost use Rattle.chip_finder.specs.LentFlashes.{memory};
 ghost use Rattle.frame_build.specs.Buffer.{frameIn};
 ghost use Rattle.standin_state.specs.View.{idle, Comes, Fits, handed};
@@ -34,7 +34,7 @@ fn silences(v: Fault) -> bool
         Fault::Length => true,
         Fault::Parameter => true,
         Fault::Ident => true,
-        Fault::NotBlank => false,
+        Fault::NotBlank(_) => false,
         Fault::Protected => false,
         Fault::PageNotBlank => false,
         Fault::Difference => false,
@@ -66,12 +66,13 @@ fn phase_after(phase: Phase, v: Fault) -> Phase
 // A fault answered: flash and options stand.
 fn refuse(phase: Phase, o: Options, v: Fault, reply: &mut [u8]) -> Response
     requires { ⌜ 16 ≤ length (now reply) ⌝ }
-    ensures { λ r. ⌜ ((m : Memory) → Comes r m (now (reply .exit)) (out (rest (phaseAfter phase v) Idle o m) (one (statusByte v))) (now (reply .entry))) ⌝ }
+    ensures { λ r. ⌜ ((m : Memory) → Comes r m (now (reply .exit)) (noted (noteOf v) (out (rest (phaseAfter phase v) Idle o m) (one (statusByte v)))) (now (reply .entry))) ⌝ }
 {
     let n = frame_build::put_one(reply, frame_judge::status_byte(v));
     Response {
         core: standin_state::resting::at_rest(phase_after(phase, v), Task::Idle, o),
         answered: n,
+        note: frame_judge::note_of(v),
     }
 }
 

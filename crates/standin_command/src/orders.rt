@@ -13,6 +13,7 @@ use rules::Chip;
 use rules::Fault;
 use rules::Flash;
 use rules::Found;
+use rules::Note;
 use rules::Options;
 use rules::Phase;
 use rules::Range;
@@ -30,7 +31,7 @@ ghost use lib.ListN.{length};
 ghost use Rattle.rules.specs.declared.Chip.{Chip};
 ghost use Rattle.rules.specs.declared.Options.{Options};
 ghost use Rattle.rules.specs.declared.Task.the-variants.{Idle};
-ghost use Rattle.rules.specs.declared.Order.the-variants.{Verify, Erase, Program, BaudRate, Identity, Release, WindowSet, Checksum};
+ghost use Rattle.rules.specs.declared.Order.the-variants.{Verify, Erase, BlankCheck, Program, BaudRate, Identity, Release, WindowSet, Checksum};
 ghost use Rattle.rules.specs.declared.Decoded.the-variants.{Is, Bad};
 ghost use Rattle.rules.specs.Chip.{Memory, wordBytes, blocks, eraseAddress, range};
 ghost use Rattle.rules.specs.Frame.{dataStart, lastEnd, frame};
@@ -52,6 +53,7 @@ fn acknowledge(phase: Phase, task: Task, o: Options, reply: &mut [u8]) -> Respon
     Response {
         core: at_rest(phase, task, o),
         answered: n,
+        note: Note::Empty,
     }
 }
 
@@ -64,6 +66,7 @@ fn tell(phase: Phase, o: Options, body: &[u8], reply: &mut [u8]) -> Response
     Response {
         core: at_rest(phase, Task::Idle, o),
         answered: n,
+        note: Note::Empty,
     }
 }
 
@@ -107,6 +110,7 @@ fn tell_speed(o: Options, reply: &mut [u8]) -> Response
     Response {
         core: at_rest(tasks::after_speed(o), Task::Idle, o),
         answered: n,
+        note: Note::Empty,
     }
 }
 
@@ -119,6 +123,7 @@ fn secure(phase: Phase, o: Options, reply: &mut [u8]) -> Response
         return Response {
             core: at_rest(Phase::Silent, Task::Idle, o),
             answered: 0,
+            note: Note::Empty,
         };
     }
     acknowledge(phase, Task::Idle, o, reply)
@@ -185,6 +190,37 @@ fn tell_sum<'a>(
         Range::Blocks(g, a, b) => {
             let sum = octets::checksum(chip_finder::range_part(chip, code, data, g, a, b));
             tell_word(phase, o, sum, reply)
+        }
+        Range::Invalid => refuse(phase, o, Fault::Parameter, reply),
+    }
+}
+
+// Blank Check of the blocks of a valid address pair, with the option bits where TAR counts them in. Flash and options stand.
+fn check_blank<'a>(
+    chip: Chip,
+    c: Core,
+    sad: Address,
+    ead: Address,
+    tar: u8,
+    code: &'a [u8],
+    data: &'a [u8],
+    reply: &mut [u8],
+) -> Response
+    requires { ⌜ Fits chip (now code) (now «data») (now reply) ⌝ }
+    ensures { λ r. ⌜ ((f : List ℕ) → Comes r (memory (now (code .entry)) (now («data» .entry))) (now (reply .exit)) (onOrder chip c (memory (now (code .entry)) (now («data» .entry))) f (cond (leb tar 1) (overBlocks (λ g a b. BlankCheck g a b tar) (range chip sad ead)) Bad)) (now (reply .entry))) ⌝ }
+{
+    let phase = c.phase;
+    let o = c.options;
+    if 1 < tar {
+        return refuse(phase, o, Fault::Parameter, reply);
+    }
+    match chip_finder::range(chip, sad, ead) {
+        Range::Blocks(g, a, b) => {
+            let v = standin_verdict::blank_fault(chip, o, code, data, g, a, b, tar);
+            if frame_judge::status_byte(v) != 0x06 {
+                return refuse(phase, o, v, reply);
+            }
+            acknowledge(phase, Task::Idle, o, reply)
         }
         Range::Invalid => refuse(phase, o, Fault::Parameter, reply),
     }
@@ -316,6 +352,16 @@ pub(crate) fn obey(
         0x00 => acknowledge(phase, Task::Idle, o, reply),
         0x13 => verify(chip, c, address_at(f, 3), address_at(f, 6), reply),
         0x22 => erase(chip, c, address_at(f, 3), code, data, reply),
+        0x32 => check_blank(
+            chip,
+            c,
+            address_at(f, 3),
+            address_at(f, 6),
+            byte_at(f, 9),
+            &*code,
+            &*data,
+            reply,
+        ),
         0x40 => program(chip, c, address_at(f, 3), address_at(f, 6), reply),
         0x9A => set_speed(c, byte_at(f, 3), byte_at(f, 4), reply),
         0x9C => identify(c, f, &*code, reply),

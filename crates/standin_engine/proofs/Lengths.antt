@@ -8,6 +8,7 @@ use lib.Dec.{eqb}
 use lib.ListN.{length}
 use Rattle.rules.specs.declared.Chip.{Chip}
 use Rattle.rules.specs.declared.Call.the-variants.{Refused, Answer}
+use Rattle.rules.specs.declared.Note.the-variants.{Empty}
 use Rattle.rules.specs.declared.Refusal.{Refusal}
 use Rattle.rules.specs.declared.Phase.{Phase}
 use Rattle.rules.specs.declared.Phase.the-variants.{Mode, Speed, Ident, Command, Silent}
@@ -76,7 +77,7 @@ pub record Fitting (reply : List ℕ) (o : Outcome) : Type 0 where
   pub answer : (n : ℕ) → o .call ≡ Answer n → n ≤ length reply
   pub short : (n : ℕ) → o .call ≡ Answer n → n ≤ 16
 
-refused-fits : (reply : List ℕ) (s : State) (r : Refusal) → Fitting reply (callOutcome s (Refused r) reply)
+refused-fits : (reply : List ℕ) (s : State) (r : Refusal) → Fitting reply (callOutcome s (Refused r) Empty reply)
 refused-fits reply s r =
     let no : (n : ℕ) → Refused r ≡ Answer n → ⊥ = λ n e. let z : _≡_ {A = ℕ} 0 1 = cc in omega arith in
     record { answer = λ n e. absurd (no n e); short = λ n e. absurd (no n e) }

@@ -13,6 +13,7 @@ use Rattle.rules.specs.declared.Chip.{Chip}
 use Rattle.rules.specs.declared.Phase.{Phase}
 use Rattle.rules.specs.declared.Phase.the-variants.{Mode, Speed, Ident, Command, Silent}
 use Rattle.rules.specs.declared.Call.the-variants.{Refused, Answer}
+use Rattle.rules.specs.declared.Note.the-variants.{Empty}
 use Rattle.rules.specs.declared.Refusal.{Refusal}
 use Rattle.rules.specs.declared.Task.the-variants.{Idle}
 use Rattle.rules.specs.declared.Verdict.the-variants as v
@@ -182,7 +183,7 @@ module _ (chip : Chip) (s : State) (b : ℕ) where
 
   module _ (reply : List ℕ) where
     pub refused-byte : (n : Refusal) → lentVerdict chip (length (s .memory .code)) (length (s .memory .«data»)) (length reply) ≡ v.Refused n
-        → callOutcome s (Refused n) reply ≡ byteCall chip s reply b
+        → callOutcome s (Refused n) Empty reply ≡ byteCall chip s reply b
     unfolding byteCall byteBy
     refused-byte n e = rw e
 
@@ -192,14 +193,14 @@ module _ (chip : Chip) (s : State) (b : ℕ) where
     taken e = rw e
 
 -- no answer leaves the reply buffer
-pub unanswered : (s : State) (reply : List ℕ) → callOutcome s (Answer 0) reply ≡ answered (out s []) reply
+pub unanswered : (s : State) (reply : List ℕ) → callOutcome s (Answer 0) Empty reply ≡ answered (out s []) reply
 unfolding over
 unanswered s reply = refl
 
 -- a record that holds those bytes, and answers nothing
-pub held-as : (s : State) (g : List ℕ) (o : Out) (reply : List ℕ) → s .got ≡ g → holding s g ≡ o → callOutcome s (Answer 0) reply ≡ answered o reply
+pub held-as : (s : State) (g : List ℕ) (o : Out) (reply : List ℕ) → s .got ≡ g → holding s g ≡ o → callOutcome s (Answer 0) Empty reply ≡ answered o reply
 held-as s g o reply e q =
-    ap (λ (x : List ℕ). callOutcome (holding s x .state) (Answer 0) reply) e
+    ap (λ (x : List ℕ). callOutcome (holding s x .state) (Answer 0) Empty reply) e
     ∙ unanswered (holding s g .state) reply
     ∙ ap (λ (x : Out). answered x reply) q
 

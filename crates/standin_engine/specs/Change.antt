@@ -3,6 +3,8 @@ use Prim.Native.Nat.{ℕ}
 use mathlib.Core.List.{List}
 use Rattle.rules.specs.declared.Call.{Call}
 use Rattle.rules.specs.declared.Call.the-variants.{Refused, Answer}
+use Rattle.rules.specs.declared.Note.{Note}
+use Rattle.rules.specs.declared.Note.the-variants.{Empty}
 use Rattle.rules.specs.Chip.{Memory}
 use Rattle.rules.specs.StandIn.{Outcome}
 use Rattle.standin_state.specs.declared.Core.{Core}
@@ -23,9 +25,15 @@ callOf (change.Refused r) = Refused r
 callOf (change.Held n) = Answer 0
 callOf (change.Whole h) = Answer (h .answered)
 
+-- and its note
+abbrev pub noteFrom : Change → Note
+noteFrom (change.Refused r) = Empty
+noteFrom (change.Held n) = Empty
+noteFrom (change.Whole h) = h .note
+
 -- what the call came to, by what it changed; and by the whole record
 abbrev pub changeOutcome : Core → Change → List ℕ → Memory → List ℕ → Outcome
-changeOutcome c x frame m reply = callOutcome (view (changed c x) frame m) (callOf x) reply
+changeOutcome c x frame m reply = callOutcome (view (changed c x) frame m) (callOf x) (noteFrom x) reply
 
 abbrev pub coreOutcome : CoreAfter → List ℕ → Memory → List ℕ → Outcome
-coreOutcome t frame m reply = callOutcome (view (t .core) frame m) (t .call) reply
+coreOutcome t frame m reply = callOutcome (view (t .core) frame m) (t .answer .call) (t .answer .note) reply

@@ -4,6 +4,7 @@ use mathlib.Core.Bool.{Bool, true, false, cond, _||_}
 use mathlib.Core.List.{List}
 use lib.Dec.{ltb}
 use Rattle.rules.specs.declared.Call.{Call}
+use Rattle.rules.specs.declared.Note.{Note}
 use Rattle.rules.specs.declared.Phase.{Phase}
 use Rattle.rules.specs.declared.Phase.the-variants.{Mode, Speed, Ident, Command, Silent}
 use Rattle.rules.specs.Chip.{Memory}
@@ -26,9 +27,9 @@ view c buffer m =
 abbrev pub holds : Core → ℕ → Core
 holds c n = record { phase = c .phase; task = c .task; options = c .options; have = n }
 
--- what a call came to: the record's state, its answer, the reply buffer
-abbrev pub callOutcome : State → Call → List ℕ → Outcome
-callOutcome s call reply = record { state = s; call = call; reply = reply }
+-- what a call came to: the record's state, its answer, its note, the reply buffer
+abbrev pub callOutcome : State → Call → Note → List ℕ → Outcome
+callOutcome s call note reply = record { state = s; call = call; reply = reply; note = note }
 
 -- how many bytes of a frame a count and a buffer hold
 unfoldable pub heldCount : ℕ → List ℕ → ℕ

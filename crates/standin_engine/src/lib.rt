@@ -1,6 +1,7 @@
 // One received byte: the small state by value, the frame in hand in a lent buffer, both flashes and the reply buffer lent.
 use rules::Call;
 use rules::Chip;
+use rules::Note;
 use rules::Phase;
 use rules::Refusal;
 use rules::Task;
@@ -12,6 +13,7 @@ ghost use Prim.Native.Nat.{ℕ, _<_, _≤_};
 ghost use mathlib.Core.List.{List, []};
 ghost use lib.ListN.{length};
 ghost use Rattle.rules.specs.declared.Call.the-variants.{Answer};
+ghost use Rattle.rules.specs.declared.Note.the-variants.{Empty};
 ghost use Rattle.rules.specs.Chip.{Memory};
 ghost use Rattle.rules.specs.Frame.{frameSize, lenOf};
 ghost use Rattle.rules.specs.Numbers.{callNumber};
@@ -24,17 +26,23 @@ ghost use Rattle.standin_engine.specs.Stands.{Stands};
 
 pub mod frames;
 
-// What a byte changes: nothing where it is refused; else how many bytes of a frame are held, with nothing answered, or the device by a whole
-// frame or a mode byte. So a byte that only goes on with a frame does not hand the device about.
+// What a byte changes: nothing where it is refused; else how many bytes of a frame are held, with nothing answered or noted, or the device by a
+// whole frame or a mode byte. So a byte that only goes on with a frame does not hand the device about.
 pub enum Change {
     Refused(Refusal),
     Held(usize),
     Whole(Response),
 }
 
+// What a byte call answers: refused, or so many bytes; and the note.
+pub struct ByteAnswer {
+    pub call: Call,
+    pub note: Note,
+}
+
 pub struct CoreAfter {
     pub core: Core,
-    pub call: Call,
+    pub answer: ByteAnswer,
 }
 
 // How many bytes of a frame the buffer holds: a count that no buffer holds, or at or past its LEN's end, is none.
@@ -66,7 +74,7 @@ fn in_hand(have: usize, held: &[u8; 260]) -> usize
 // Nothing is held: the byte begins a frame if it is the start byte awaited, else it is skipped. How many bytes are then held.
 fn begin(chip: Chip, c: Core, byte: u8, held: &mut [u8; 260]) -> usize
     requires { ⌜ (length (now held) ≡ 260) × (received (c .have) (now held) ≡ []) ⌝ }
-    ensures { λ r. ⌜ ((m : Memory) (reply : List ℕ) → callOutcome (view (holds c r) (now (held .exit)) m) (Answer 0) reply ≡ answered (receive chip (view c (now (held .entry)) m) [] byte) reply) ⌝ }
+    ensures { λ r. ⌜ ((m : Memory) (reply : List ℕ) → callOutcome (view (holds c r) (now (held .exit)) m) (Answer 0) Empty reply ≡ answered (receive chip (view c (now (held .entry)) m) [] byte) reply) ⌝ }
 {
     let phase = c.phase;
     let task = c.task;
@@ -155,7 +163,11 @@ pub fn byte_change(
             Task::Idle,
             o,
         );
-        return Change::Whole(Response { core, answered: 0 });
+        return Change::Whole(Response {
+            core,
+            answered: 0,
+            note: Note::Empty,
+        });
     }
     receive(chip, c, byte, held, code, data, reply)
 }
@@ -171,28 +183,38 @@ pub fn byte_core(
     reply: &mut [u8],
 ) -> CoreAfter
     ensures { λ r. ⌜ coreOutcome r (now (held .exit)) (memory (now (code .exit)) (now («data» .exit))) (now (reply .exit)) ≡ byteCall chip (view c (now (held .entry)) (memory (now (code .entry)) (now («data» .entry)))) (now (reply .entry)) byte ⌝ }
-    ensures { λ r. ⌜ Stands (callNumber (r .call)) c (r .core) ⌝ }
-    ensures { λ r. ⌜ Stands (callNumber (r .call)) (now (held .entry)) (now (held .exit)) ⌝ }
+    ensures { λ r. ⌜ Stands (callNumber (r .answer .call)) c (r .core) ⌝ }
+    ensures { λ r. ⌜ Stands (callNumber (r .answer .call)) (now (held .entry)) (now (held .exit)) ⌝ }
 {
     let changed = byte_change(chip, c, byte, held, code, data, reply);
     match changed {
         Change::Refused(refusal) => CoreAfter {
             core: c,
-            call: Call::Refused(refusal),
+            answer: ByteAnswer {
+                call: Call::Refused(refusal),
+                note: Note::Empty,
+            },
         },
         Change::Held(n) => {
             let mut e = c;
             e.have = n;
             CoreAfter {
                 core: e,
-                call: Call::Answer(0),
+                answer: ByteAnswer {
+                    call: Call::Answer(0),
+                    note: Note::Empty,
+                },
             }
         }
         Change::Whole(h) => {
             let core = h.core;
+            let note = h.note;
             CoreAfter {
                 core,
-                call: Call::Answer(h.answered),
+                answer: ByteAnswer {
+                    call: Call::Answer(h.answered),
+                    note,
+                },
             }
         }
     }

@@ -1,5 +1,6 @@
 // Data frames: a page of Programming, with the delayed write status, and a page of Verify.
 use rules::Chip;
+use rules::Note;
 use rules::Pages;
 use rules::Task;
 use rules::Verdict;
@@ -30,7 +31,11 @@ fn paired(c: Core, task: Task, line: u8, status: u8, reply: &mut [u8]) -> Respon
     let o = c.options;
     let core = standin_state::resting::at_rest(phase, task, o);
     let n = frame_build::put_pair(reply, line, status);
-    Response { core, answered: n }
+    Response {
+        core,
+        answered: n,
+        note: Note::Empty,
+    }
 }
 
 // The pages after the one in hand, with what is known of it.

@@ -28,7 +28,8 @@ idle c m = rest (c .phase) (c .task) (c .options) m
 
 -- what a whole frame came to
 abbrev pub frameOutcome : Response → Memory → List ℕ → Outcome
-frameOutcome h m reply = record { state = idle (h .core) m; call = Answer (h .answered); reply = reply }
+frameOutcome h m reply =
+    record { state = idle (h .core) m; call = Answer (h .answered); reply = reply; note = h .note }
 
 -- the device and its reply buffer show that outcome, and nothing is half received
 abbrev pub Comes : Response → Memory → List ℕ → Out → List ℕ → Type 0

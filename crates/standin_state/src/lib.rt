@@ -1,4 +1,5 @@
 // The device's small state, and the phases and commands begun that it goes through.
+use rules::Note;
 use rules::Options;
 use rules::Phase;
 use rules::Task;
@@ -16,8 +17,9 @@ pub struct Core {
     pub have: usize,
 }
 
-// The device after a whole frame, and how many bytes it answered.
+// The device after a whole frame, how many bytes it answered, and its note.
 pub struct Response {
     pub core: Core,
     pub answered: usize,
+    pub note: Note,
 }

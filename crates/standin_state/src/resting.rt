@@ -1,6 +1,7 @@
 // The small state with nothing received.
 use crate::Core;
 use crate::Response;
+use rules::Note;
 use rules::Options;
 use rules::Phase;
 use rules::Task;
@@ -33,6 +34,7 @@ pub fn unanswered(c: Core) -> Response
     Response {
         core: at_rest(phase, task, o),
         answered: 0,
+        note: Note::Empty,
     }
 }
 

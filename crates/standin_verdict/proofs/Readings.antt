@@ -15,7 +15,7 @@ use Rattle.rules.specs.declared.Range.the-variants.{Blocks, Invalid}
 use Rattle.rules.specs.declared.Options.{Options}
 use Rattle.rules.specs.declared.Phase.{Phase}
 use Rattle.rules.specs.declared.Order.{Order}
-use Rattle.rules.specs.declared.Order.the-variants.{Verify, Program, BaudRate, Checksum}
+use Rattle.rules.specs.declared.Order.the-variants.{Verify, BlankCheck, Program, BaudRate, Checksum}
 use Rattle.rules.specs.declared.Decoded.{Decoded}
 use Rattle.rules.specs.declared.Decoded.the-variants.{Is, Bad}
 use Rattle.rules.specs.declared.Fault.{Fault}
@@ -24,7 +24,7 @@ use Rattle.rules.specs.declared.Judged.the-variants.{Faulty, Ordered}
 use Rattle.rules.specs.Chip.{Memory, byteAt, blocks, eraseAddress, range}
 use Rattle.rules.specs.First.{firstFault}
 use Rattle.rules.specs.Frame.{statusByte}
-use Rattle.rules.specs.Command.{Entry, codeOf, sadOf, eadOf, overBlocks, atBlock, commands, readAs, decoded, frameChecks, orderChecks, unless, judgedOrder, judged}
+use Rattle.rules.specs.Command.{Entry, codeOf, sadOf, eadOf, tarOf, overBlocks, paired, atBlock, commands, readAs, decoded, frameChecks, orderChecks, unless, judgedOrder, judged}
 use Rattle.chip_finder.proofs.ThereAndBack.{erase-inside, range-inside}
 use Rattle.standin_verdict.specs.Inside.{InRange, Inside}
 
@@ -63,9 +63,9 @@ module _ (chip : Chip) where
   at-read (In f b) there = there f b refl
   at-read Nowhere there = tt
 
-  rate-read : (t : Bool) → Read chip (cond t (Is BaudRate) Bad)
-  rate-read true = tt
-  rate-read false = tt
+  or-bad : (t : Bool) (d : Decoded) → Read chip d → Read chip (cond t d Bad)
+  or-bad true d r = r
+  or-bad false d r = tt
 
   -- every reading of the table
   abbrev All : List ℕ → List Entry → Type 0
@@ -84,7 +84,7 @@ module _ (chip : Chip) where
   decoded-read : (f : List ℕ) → Read chip (decoded chip f)
   unfolding commands
   decoded-read f =
-      all-read f commands (codeOf f) (tt, (over-read Verify (λ g a b i. i) (range chip (sadOf f) (eadOf f)) (range-inside chip (sadOf f) (eadOf f)), (at-read (eraseAddress chip (sadOf f)) (erase-inside chip (sadOf f)), (over-read Program (λ g a b i. i) (range chip (sadOf f) (eadOf f)) (range-inside chip (sadOf f) (eadOf f)), (rate-read (leb (byteAt f 3) 3 && leb 0x10 (byteAt f 4) && leb (byteAt f 4) 0x37), (tt, (tt, (tt, (tt, (tt, (tt, (over-read Checksum (λ g a b i. i) (range chip (sadOf f) (eadOf f)) (range-inside chip (sadOf f) (eadOf f)), tt))))))))))))
+      all-read f commands (codeOf f) (tt, (over-read Verify (λ g a b i. i) (range chip (sadOf f) (eadOf f)) (range-inside chip (sadOf f) (eadOf f)), (at-read (eraseAddress chip (sadOf f)) (erase-inside chip (sadOf f)), (or-bad (leb (tarOf f) 1) (paired (λ g a b. BlankCheck g a b (tarOf f)) chip f) (over-read (λ g a b. BlankCheck g a b (tarOf f)) (λ g a b i. i) (range chip (sadOf f) (eadOf f)) (range-inside chip (sadOf f) (eadOf f))), (over-read Program (λ g a b i. i) (range chip (sadOf f) (eadOf f)) (range-inside chip (sadOf f) (eadOf f)), (or-bad (leb (byteAt f 3) 3 && leb 0x10 (byteAt f 4) && leb (byteAt f 4) 0x37) (Is BaudRate) tt, (tt, (tt, (tt, (tt, (tt, (tt, (over-read Checksum (λ g a b i. i) (range chip (sadOf f) (eadOf f)) (range-inside chip (sadOf f) (eadOf f)), tt)))))))))))))
 
   unless-sound : (v : Fault) (j : Judged) → Sound chip j → Sound chip (unless v j)
   unfolding unless

@@ -1,22 +1,26 @@
 // What refuses a command behind the frame's own rows: its information (row 5 of the status table), then flash and options (rows 6 to 8).
 use rules::Block;
+use rules::Chip;
 use rules::Fault;
 use rules::Flash;
+use rules::Note;
 use rules::Options;
 ghost use mathlib.Core.Path.{_≡_};
-ghost use mathlib.Core.Bool.{_&&_, _||_};
+ghost use mathlib.Core.Bool.{not, _&&_, _||_};
 ghost use mathlib.Core.List.{List, [], _∷_};
 ghost use Prim.Native.Nat.{ℕ};
 ghost use lib.Dec.{leb, eqb};
 ghost use lib.ListN.{take, drop};
 ghost use Rattle.rules.specs.declared.Order.the-variants.{Erase, Identity, Release, WindowSet};
 ghost use Rattle.rules.specs.declared.Options.{Options};
-ghost use Rattle.rules.specs.declared.Fault.the-variants.{Protected};
+ghost use Rattle.rules.specs.declared.Fault.the-variants.{NotBlank, Protected};
+ghost use Rattle.rules.specs.declared.Note.the-variants.{Bits};
 ghost use Rattle.rules.specs.Chip.{Memory};
-ghost use Rattle.rules.specs.Options.{SEPR, BTPR};
+ghost use Rattle.rules.specs.Options.{SEPR, BTPR, blankOptions};
 ghost use Rattle.rules.specs.First.{rule, firstFault};
 ghost use Rattle.rules.specs.Command.{orderChecks};
-ghost use Rattle.chip_finder.specs.LentFlashes.{memory};
+ghost use Rattle.chip_finder.specs.LentFlashes.{memory, rangeShown};
+ghost use Rattle.standin_verdict.specs.Ranges.{blankRows};
 
 // BRT is 0 to 3, VDD 10h to 37h.
 pub fn rated(brt: u8, vdd: u8) -> bool
@@ -98,10 +102,43 @@ pub fn release_fault(o: Options, code: &[u8], data: &[u8]) -> Fault
     ensures { λ r. ⌜ ((f : List ℕ) → r ≡ firstFault (orderChecks o (memory (now (code .entry)) (now («data» .entry))) f Release)) ⌝ }
 {
     if !octets::is_blank(code) {
-        return Fault::NotBlank;
+        return Fault::NotBlank(Note::Empty);
     }
     if octets::is_blank(data) {
         return guarded(release_protected(o));
     }
-    Fault::NotBlank
+    Fault::NotBlank(Note::Empty)
+}
+
+// An option bit that TAR counts in is not 1.
+fn bits_fault(o: Options, tar: u8) -> Fault
+    ensures { λ r. ⌜ r ≡ firstFault (rule (NotBlank Bits) (eqb tar 1 && not (blankOptions o)) ∷ []) ⌝ }
+{
+    if tar != 1 {
+        return Fault::Well;
+    }
+    if chip_options::read::blank_options(o) {
+        return Fault::Well;
+    }
+    Fault::NotBlank(Note::Bits)
+}
+
+// Some byte of the range not FFh; then an option bit.
+pub fn blank_fault<'a>(
+    chip: Chip,
+    o: Options,
+    code: &'a [u8],
+    data: &'a [u8],
+    g: Flash,
+    a: Block,
+    b: Block,
+    tar: u8,
+) -> Fault
+    ensures { λ r. ⌜ r ≡ firstFault (blankRows o (rangeShown chip (memory (now (code .entry)) (now («data» .entry))) g a b) g a tar) ⌝ }
+{
+    let used = chip_blank::first_used(chip, code, data, g, a, b);
+    match used {
+        Note::Empty => bits_fault(o, tar),
+        _ => Fault::NotBlank(used),
+    }
 }

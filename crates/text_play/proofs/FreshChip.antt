@@ -27,7 +27,7 @@ use Rattle.text_told.proofs.Room.{play-fits, refused-fits}
 use Rattle.chip_finder.specs.LentFlashes.{memory}
 use Rattle.standin_engine.specs.View.{view}
 use Rattle.standin.specs.declared.call.Device.{Device}
-use Rattle.standin.specs.declared.call.Answered.{Answered}
+use Rattle.standin.specs.declared.call.PoweredOn.{PoweredOn}
 use Rattle.standin.specs.declared.feeding.Fed.{Fed}
 use Rattle.standin.specs.Shows.{shows, poweredAs}
 use Rattle.standin.specs.Feeding.{fedAs}
@@ -113,7 +113,7 @@ fresh-ident : identOf (freshMemory small) ≡ replicate identSize blankByte
 fresh-ident = refl
 
 module _ (k : Chip) (is : k ≡ small) (d : Device) (same : d .chip ≡ k) (o : Options) (fresh : o ≡ freshOptions) (code dat : List ℕ)
-    (blank : memory code dat ≡ freshMemory small) (a : Answered)
+    (blank : memory code dat ≡ freshMemory small) (a : PoweredOn)
     (on : poweredAs a (memory code dat) ≡ powerOn (d .chip) (shows d (memory code dat)) o (memory code dat))
     (f : Fed) (held code1 dat1 out1 out id : List ℕ) (room : openingRoom ≤ length out) (own : id ≡ replicate identSize blankByte)
     (fed : fedAs f held (memory code1 dat1) out1 ≡ opened k (shows (a .device) (memory code dat)) out id)

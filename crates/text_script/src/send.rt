@@ -1,11 +1,14 @@
-// `> HH HH ..`: written out again, sent byte by byte, and the line of the answers if there are any.
+// `> HH HH ..`: written out again, sent byte by byte, and the line of the answers if there are any; a note that is not empty has a line of its own
+// behind the answer that it goes with.
 use crate::session::Session;
 use rules::Call;
+use rules::Note;
 use standin::call::Device;
 use standin::call::byte_call;
 use text_lines::output;
 use text_read::part;
 use text_read::rows;
+use text_told::notes::put_note;
 
 // The chip while bytes are sent, and whether it has answered any of them.
 struct Sent {
@@ -46,12 +49,26 @@ fn answer(reply: &[u8], size: usize, answered: bool) {
     io::write_all(1, part::between(&line, 0, end));
 }
 
-// One byte to the chip; what it answers is written.
+// Writes the note's line, if there is one: it ends the answer line, and a later answer begins a new one.
+fn noted(note: Note) -> bool {
+    let mut line = [0u8; 64];
+    let size = put_note(&mut line, 0, note);
+    if size == 0 {
+        return false;
+    }
+    io::write_all(1, b"\n");
+    io::write_all(1, part::between(&line, 0, size));
+    true
+}
+
+// One byte to the chip; what it answers is written, and its note.
 fn send_byte(s: Sent, byte: u8, code: &mut [u8], data: &mut [u8]) -> Sent {
     let mut reply = [0u8; 16];
     let d = s.device;
     let told = byte_call(d, byte, code, data, &mut reply);
-    let call = told.call;
+    let said = told.answer;
+    let call = said.call;
+    let note = said.note;
     let size = size_of(call);
     let after = told.device;
     if size == 0 {
@@ -63,7 +80,7 @@ fn send_byte(s: Sent, byte: u8, code: &mut [u8], data: &mut [u8]) -> Sent {
     answer(&reply, size, s.answered);
     Sent {
         device: after,
-        answered: true,
+        answered: !noted(note),
     }
 }
 

@@ -6,7 +6,6 @@ use super::random::Random;
 use crate::answers::Answers;
 use crate::chip::{Flash, Model};
 use crate::frames::{self, code};
-use crate::lines::byte_line;
 use crate::options::Options;
 
 /// Leaves that chip behind: the next line has to name another.
@@ -22,7 +21,7 @@ pub fn write(tape: &mut Tape<Answers>, random: &mut Random) {
                 let reset = frames::command(code::RESET, &[]);
                 let speed = frames::command(code::SPEED, &[0x00, 0x21]);
                 let bytes = random.pick(&[&[0x3A][..], &speed, &reset]);
-                tape.line(&byte_line(">", bytes));
+                tape.send(bytes);
             }
             4 => {
                 tape.line("?");

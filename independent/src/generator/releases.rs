@@ -6,10 +6,8 @@ use super::random::Random;
 use crate::answers::Answers;
 use crate::chip::Area;
 use crate::frames::{self, code};
-use crate::joined::bring_up_bytes;
-use crate::lines::{byte_line, flash_line};
+use crate::lines::flash_line;
 use crate::options::{self, Options};
-use crate::standin::Phase;
 
 pub fn write(tape: &mut Tape<Answers>, random: &mut Random) {
     Releases { tape, random }.write();
@@ -37,7 +35,7 @@ impl Releases<'_> {
             for _ in 0..self.random.below(3) {
                 self.change_options();
             }
-            self.send(&frames::command(code::RELEASE, &[]));
+            self.tape.send(&frames::command(code::RELEASE, &[]));
             self.look();
         }
         self.open();
@@ -57,32 +55,23 @@ impl Releases<'_> {
         options
     }
 
-    fn send(&mut self, bytes: &[u8]) {
-        self.tape.line(&byte_line(">", bytes));
-    }
-
     /// From power-on to phase Command, or nearly so.
     fn open(&mut self) {
-        self.tape.line("!");
-        let [mode, speed, ident] = bring_up_bytes(self.tape.runner.chip().flash.connection_id());
-        self.send(&mode);
-        self.send(&speed);
+        self.tape.set_speed();
         if self.random.chance(25) {
             // Not allowed where the ID is asked for.
-            self.send(&frames::command(code::SECURITY_GET, &[]));
+            self.tape.send(&frames::command(code::SECURITY_GET, &[]));
         }
-        if self.tape.runner.chip().phase() == Phase::Ident || self.random.chance(10) {
-            self.send(&ident);
-        }
+        self.tape.identify();
     }
 
     fn change_options(&mut self) {
         let Options { sf1, sf2, sws, swe } = self.options();
         if self.random.chance(60) {
-            self.send(&frames::command(code::SECURITY_SET, &[sf1, sf2, 0x00]));
+            self.tape.send(&frames::command(code::SECURITY_SET, &[sf1, sf2, 0x00]));
         } else {
             let words = [sws.to_le_bytes(), swe.to_le_bytes()].concat();
-            self.send(&frames::command(code::WINDOW_SET, &words));
+            self.tape.send(&frames::command(code::WINDOW_SET, &words));
         }
     }
 
@@ -91,8 +80,8 @@ impl Releases<'_> {
             0 => {
                 self.tape.line("?");
             }
-            1 => self.send(&frames::command(code::WINDOW_GET, &[])),
-            _ => self.send(&frames::command(code::SECURITY_GET, &[])),
+            1 => self.tape.send(&frames::command(code::WINDOW_GET, &[])),
+            _ => self.tape.send(&frames::command(code::SECURITY_GET, &[])),
         }
     }
 }

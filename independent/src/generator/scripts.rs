@@ -5,13 +5,12 @@ use super::material::{
     random_span,
 };
 use super::random::Random;
-use super::{Tape, counts, releases};
+use super::{Tape, blanks, counts, releases};
 use crate::answers::Answers;
 use crate::chip::{Model, Span};
 use crate::frames::{
     self, COMMAND_START, DATA_START, END, MORE, address_bytes, code, page_frame, sum_of,
 };
-use crate::lines::byte_line;
 use crate::standin::{DuePage, Phase};
 
 pub fn generate(seed: u64, count: u64) -> String {
@@ -39,6 +38,9 @@ impl Script<'_> {
         }
         if self.random.one_in(5) {
             releases::write(self.tape, &mut self.random);
+        }
+        if self.random.one_in(4) {
+            blanks::write(self.tape, &mut self.random);
         }
         self.take_chip();
         self.prepare();
@@ -145,7 +147,7 @@ impl Script<'_> {
         let (first, second) = bytes.split_at(cut);
         for part in [first, second] {
             if !part.is_empty() {
-                self.tape.line(&byte_line(">", part));
+                self.tape.send(part);
             }
         }
     }
@@ -204,7 +206,7 @@ impl Script<'_> {
 
     /// A well-formed frame of any command, with good or bad parameters.
     fn any_command(&mut self) -> Vec<u8> {
-        match self.random.below(100) {
+        match self.random.below(107) {
             0..22 => self.pair_command(code::PROGRAM),
             22..38 => self.pair_command(code::VERIFY),
             38..52 => self.erase_command(),
@@ -218,17 +220,27 @@ impl Script<'_> {
             95 => frames::command(code::SPEED, &[0x00, 0x21]),
             96 => self.ident_command(),
             97..99 => self.unknown_command(),
+            99..106 => self.blank_check(),
             _ => self.huge_command(),
         }
     }
 
+    /// SAD and EAD, mostly valid.
+    fn some_pair(&mut self) -> (u32, u32) {
+        if self.random.chance(15) {
+            return bad_pair(&mut self.random, self.tape.runner.chip().model());
+        }
+        let span = self.some_span(3);
+        (span.first_address(), span.last_address())
+    }
+
+    fn blank_check(&mut self) -> Vec<u8> {
+        let (sad, ead) = self.some_pair();
+        blanks::blank_check(sad, ead, blanks::random_tar(&mut self.random))
+    }
+
     fn pair_command(&mut self, code: u8) -> Vec<u8> {
-        let (sad, ead) = if self.random.chance(15) {
-            bad_pair(&mut self.random, self.tape.runner.chip().model())
-        } else {
-            let span = self.some_span(3);
-            (span.first_address(), span.last_address())
-        };
+        let (sad, ead) = self.some_pair();
         frames::command(code, &[address_bytes(sad), address_bytes(ead)].concat())
     }
 
@@ -278,7 +290,7 @@ impl Script<'_> {
     /// A code that is none of ours, the guide's other commands among them.
     fn unknown_command(&mut self) -> Vec<u8> {
         let code = match self.random.below(3) {
-            0 => self.random.pick(&[0x32, 0xA5, 0xA6, 0xA7, 0xAB, 0xC0]),
+            0 => self.random.pick(&[0x30, 0xA5, 0xA6, 0xA7, 0xAB, 0xC0]),
             1 => self.random.pick(&[0x01, 0x12, 0x14, 0x41, 0x9B, 0xA3, 0xAE, 0xB1, 0xFF]),
             _ => self.random.pick(&[0x55, 0x02, 0x03, 0x17, 0x80]),
         };

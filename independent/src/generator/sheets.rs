@@ -8,10 +8,7 @@ use super::{Tape, counts};
 use crate::answers::Answers;
 use crate::chip::{Area, Flash};
 use crate::frames::{self, code};
-use crate::joined::bring_up_bytes;
-use crate::lines::byte_line;
 use crate::options::Options;
-use crate::standin::Phase;
 
 pub fn generate(seed: u64, count: u64) -> String {
     let mut tape = Tape::new(Answers::new());
@@ -59,18 +56,9 @@ impl Case<'_> {
         }
     }
 
-    fn send(&mut self, bytes: &[u8]) {
-        self.tape.line(&byte_line(">", bytes));
-    }
-
     fn bring_up(&mut self) {
-        self.tape.line("!");
-        let [mode, speed, ident] = bring_up_bytes(self.tape.runner.chip().flash.connection_id());
-        self.send(&mode);
-        self.send(&speed);
-        if self.tape.runner.chip().phase() == Phase::Ident {
-            self.send(&ident);
-        }
+        self.tape.set_speed();
+        self.tape.identify();
     }
 
     /// To a state in which the chip does not wait for a command, or nearly so.
@@ -84,22 +72,22 @@ impl Case<'_> {
             }
             2 => {
                 self.tape.line("!");
-                self.send(&[0x3A]);
+                self.tape.send(&[0x3A]);
             }
             3 => {
                 self.tape.line("!");
-                self.send(&[0x3B]);
+                self.tape.send(&[0x3B]);
             }
             // Half a frame.
             4 => {
                 self.bring_up();
                 let count = self.random.between(1, reset.len() - 1);
-                self.send(&reset[..count]);
+                self.tape.send(&reset[..count]);
             }
             // Stray bytes, which are skipped: the chip still waits.
             5 => {
                 self.bring_up();
-                self.send(&[0x02, 0x03, 0x17, 0xFF]);
+                self.tape.send(&[0x02, 0x03, 0x17, 0xFF]);
             }
             // A command that awaits data.
             6 => {
@@ -107,11 +95,11 @@ impl Case<'_> {
                 let model = self.tape.runner.chip().model();
                 let span = random_span(&mut self.random, model, Area::Data, 2);
                 let code = self.random.pick(&[code::PROGRAM, code::VERIFY]);
-                self.send(&frames::pair_command(code, span));
+                self.tape.send(&frames::pair_command(code, span));
             }
             _ => {
                 self.bring_up();
-                self.send(&reset);
+                self.tape.send(&reset);
             }
         }
     }

@@ -4,6 +4,7 @@ use native.Mathlib.Omega.{arith}
 use lib.ListN.{length}
 use denote.Ref.{now}
 use borrow.Author.Tests.{not-true, not-false}
+use Rattle.rules.specs.declared.Note.the-variants.{Empty}
 use Rattle.rules.specs.declared.Phase.{Phase}
 use Rattle.rules.specs.declared.Task.the-variants.{Idle}
 use Rattle.rules.specs.declared.Call.the-variants.{Answer}
@@ -61,7 +62,7 @@ returns-3 c =
     let lent = memory (now (a .code)) (now (a .«data»)) in
     let v = view (a .c) (now (a .held)) lent in
     let none = takes-none (a .c .phase) (sym (t .before .listens .ensures) ∙ not-true _ (t .if1 .taken)) (λ x. n .if2 .left (n .before .phase-number .ensures ∙ x)) in (
-      ap (λ (k : Core). callOutcome (view k (now (a .held)) lent) (Answer 0) (now (a .reply))) (c .at-rest .ensures ∙ ap (λ (p : Phase). resting p Idle (a .c .options)) (m .after-mode .ensures))
+      ap (λ (k : Core). callOutcome (view k (now (a .held)) lent) (Answer 0) Empty (now (a .reply))) (c .at-rest .ensures ∙ ap (λ (p : Phase). resting p Idle (a .c .options)) (m .after-mode .ensures))
           ∙ unanswered (rest (afterMode (a .byte)) Idle (a .c .options) lent) (now (a .reply))
           ∙ ap (λ (o : Out). answered o (now (a .reply))) (mode-step (a .chip) v (a .byte) none)
           ∙ opened e,

@@ -5,7 +5,7 @@ use Rattle.rules.specs.Numbers.{callNumber}
 use Rattle.rules.specs.StandIn.{byteCall}
 use Rattle.chip_finder.specs.LentFlashes.{memory}
 use Rattle.standin_engine.specs.View.{view, callOutcome}
-use Rattle.standin_engine.specs.Change.{changed, callOf}
+use Rattle.standin_engine.specs.Change.{changed, callOf, noteFrom}
 use Rattle.standin_engine.specs.declared.Change.{Change}
 use borrow.Author.Needs.{needs}
 use Rattle.standin_engine.proofs.byte_core.Statement.{statement}
@@ -14,12 +14,12 @@ use Rattle.standin_engine.proofs.byte_core.Tie as tie
 -- a change that is known is the record and the answer that it says
 told-so : (c : tie.After-slice-known6) (x : Change) → let h = c .before .before .before .before .before .before .byte-change in let a = c .before .before .before .before .before .before .before .before .before .before .before .before .before .before .args in
     h .result ≡ x
-    → callOutcome (view (changed (a .c) x) (h .last .1 .1 .1 .0) (memory (h .last .1 .1 .1 .1 .0) (h .last .1 .1 .1 .1 .1 .0))) (callOf x) (h .last .1 .1 .1 .1 .1 .1 .0)
+    → callOutcome (view (changed (a .c) x) (h .last .1 .1 .1 .0) (memory (h .last .1 .1 .1 .1 .0) (h .last .1 .1 .1 .1 .1 .0))) (callOf x) (noteFrom x) (h .last .1 .1 .1 .1 .1 .1 .0)
     ≡ byteCall (a .chip) (view (a .c) (now (a .held)) (memory (now (a .code)) (now (a .«data»)))) (now (a .reply)) (a .byte)
 told-so c x e =
     let h = c .before .before .before .before .before .before .byte-change in
     let a = c .before .before .before .before .before .before .before .before .before .before .before .before .before .before .args in
-    ap (λ (y : Change). callOutcome (view (changed (a .c) y) (h .last .1 .1 .1 .0) (memory (h .last .1 .1 .1 .1 .0) (h .last .1 .1 .1 .1 .1 .0))) (callOf y) (h .last .1 .1 .1 .1 .1 .1 .0)) (sym e)
+    ap (λ (y : Change). callOutcome (view (changed (a .c) y) (h .last .1 .1 .1 .0) (memory (h .last .1 .1 .1 .1 .0) (h .last .1 .1 .1 .1 .1 .0))) (callOf y) (noteFrom y) (h .last .1 .1 .1 .1 .1 .1 .0)) (sym e)
     ∙ h .ensures .0
 
 returns : tie.Need-returns

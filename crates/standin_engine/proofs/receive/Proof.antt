@@ -86,7 +86,7 @@ returns-3 c =
     let f = c .before .before .before .before .before .before .on-frame in
     let t = fits-taken _ _ _ _ (start e .pre .1) _ _ _ _ _ _ (f .ensures) in
     ap
-    (λ (g : List ℕ). callOutcome (record { phase = f .result .core .phase; task = f .result .core .task; options = f .result .core .options; got = g; memory = memory (f .last .1 .1 .1 .0) (f .last .1 .1 .1 .1 .0) }) (Answer (f .result .answered)) (f .last .1 .1 .1 .1 .1 .0))
+    (λ (g : List ℕ). callOutcome (record { phase = f .result .core .phase; task = f .result .core .task; options = f .result .core .options; got = g; memory = memory (f .last .1 .1 .1 .0) (f .last .1 .1 .1 .1 .0) }) (Answer (f .result .answered)) (f .result .note) (f .last .1 .1 .1 .1 .1 .0))
     (none-got (f .result .core .have) (set xs k (a .byte)) (t .1))
     ∙ t .0
     ∙ ap (λ (o : Out). answered o (now (a .reply))) (completed (a .chip) v (a .byte) xs k (some e) (fits e) (c .before .before .before .before .before .before .before .before .before .before .before .if3 .taken ∙ same-size e))

@@ -10,10 +10,10 @@ use Rattle.frame_judge.proofs.table.row_of.Statement.{statement}
 use Rattle.frame_judge.proofs.table.row_of.Tie as tie
 
 abbrev Inv-loop : tie.InvT-loop
-Inv-loop code table i₀ i = (i ≤ 12) × (lookup rows code ≡ lookup (drop i rows) code) × (table ≡ rows)
+Inv-loop code table i₀ i = (i ≤ 13) × (lookup rows code ≡ lookup (drop i rows) code) × (table ≡ rows)
 
 abbrev μ-loop : tie.MeasureT-loop
-μ-loop code table i₀ i = 12 - i
+μ-loop code table i₀ i = 13 - i
 
 loop-holds : tie.Need-loop-holds Inv-loop μ-loop
 unfolding rows commands
@@ -35,7 +35,7 @@ returns-2 : tie.Need-returns-2 Inv-loop μ-loop
 unfolding rows commands lookup
 returns-2 c =
     let l = c .before .loop in
-    let e : l .i ≡ 12 = omega arith in
+    let e : l .i ≡ 13 = omega arith in
     sym (rw e at (l .inv .1))
 
 pub row-of-spec : {M : Type 1} → statement M

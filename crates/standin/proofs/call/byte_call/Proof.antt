@@ -3,7 +3,7 @@ use mathlib.Core.Path.{_≡_, refl, ap}
 use mathlib.Core.List.{List}
 use Prim.Native.Nat.{ℕ}
 use Rattle.rules.specs.declared.Chip.{Chip}
-use Rattle.rules.specs.Numbers.{callNumber}
+use Rattle.rules.specs.Numbers.{callNumber, noteNumbers}
 use Rattle.rules.specs.StandIn.{Outcome}
 use Rattle.standin_state.specs.declared.Core.{Core}
 use Rattle.standin.specs.declared.call.Device.{Device}
@@ -18,8 +18,8 @@ same chip c k x y e f = rw (e, f)
 
 returns : tie.Need-returns
 returns c =
-    let t = c .before .before .before .before .before .before .before .byte-core .ensures in
-    (refl, (t .0, (ap (λ (o : Outcome). callNumber (o .call)) (t .0), λ refused. same _ _ _ _ _ (t .1 .0 refused) (t .1 .1 refused))))
+    let t = c .before .before .before .before .before .before .before .before .byte-core .ensures in
+    (refl, (t .0, (ap (λ (o : Outcome). callNumber (o .call)) (t .0), (ap (λ (o : Outcome). noteNumbers (o .note)) (t .0), λ refused. same _ _ _ _ _ (t .1 .0 refused) (t .1 .1 refused)))))
 
 pub byte-call-spec : {M : Type 1} → statement M
 byte-call-spec =

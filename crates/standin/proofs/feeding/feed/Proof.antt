@@ -14,7 +14,7 @@ use Rattle.chip_finder.specs.LentFlashes.{memory}
 use Rattle.frame_build.proofs.Buffers.{rest-of, put-rest}
 use Rattle.standin_engine.proofs.Stays.{lettered}
 use Rattle.standin_engine.specs.View.{view, callOutcome}
-use Rattle.standin_engine.specs.Change.{changed, callOf}
+use Rattle.standin_engine.specs.Change.{changed, callOf, noteFrom}
 use Rattle.standin.specs.Feeding.{feeding, feedFrom, fedInto}
 use Rattle.standin_engine.specs.declared.Change.{Change}
 use Rattle.standin.proofs.FeedingAdvances.{fed-end, fed-on, fed-stop, answer-room, answer-short, room-answers, numbered}
@@ -40,13 +40,13 @@ abbrev μ-loop : tie.MeasureT-loop
 -- the byte call came to what the definition says of the rest of the buffer
 module _ (c : tie.After-slice-known6 Inv-loop μ-loop) (x : Change) (e : c .before .before .before .before .before .before .byte-change .result ≡ x) where
   called : let l = c .before .before .before .before .before .before .before .before .before .before .before .before .before .loop in let a = c .before .before .before .before .before .before .before .before .before .before .before .before .before .before .before .before .before .before .args in let t = c .before .before .before .before .before .before .byte-change in
-      callOutcome (view (changed (l .core) x) (t .last .1 .1 .1 .0) (memory (t .last .1 .1 .1 .1 .0) (t .last .1 .1 .1 .1 .1 .0))) (callOf x) (t .last .1 .1 .1 .1 .1 .1 .0)
+      callOutcome (view (changed (l .core) x) (t .last .1 .1 .1 .0) (memory (t .last .1 .1 .1 .1 .0) (t .last .1 .1 .1 .1 .1 .0))) (callOf x) (noteFrom x) (t .last .1 .1 .1 .1 .1 .1 .0)
       ≡ byteCall (a .chip) (view (l .core) (l .held) (memory (l .code) (l .«data»))) (drop (l .w) (l .answers)) (getD (now (a .bytes)) (l .i) 0)
   called =
       let l = c .before .before .before .before .before .before .before .before .before .before .before .before .before .loop in
       let a = c .before .before .before .before .before .before .before .before .before .before .before .before .before .before .before .before .before .before .args in
       let t = c .before .before .before .before .before .before .byte-change in
-      ap (λ (y : Change). callOutcome (view (changed (l .core) y) (t .last .1 .1 .1 .0) (memory (t .last .1 .1 .1 .1 .0) (t .last .1 .1 .1 .1 .1 .0))) (callOf y) (t .last .1 .1 .1 .1 .1 .1 .0)) (sym e)
+      ap (λ (y : Change). callOutcome (view (changed (l .core) y) (t .last .1 .1 .1 .0) (memory (t .last .1 .1 .1 .1 .0) (t .last .1 .1 .1 .1 .1 .0))) (callOf y) (noteFrom y) (t .last .1 .1 .1 .1 .1 .1 .0)) (sym e)
       ∙ t .ensures .0
       ∙ ap (λ (r : List ℕ). byteCall (a .chip) (view (l .core) (l .held) (memory (l .code) (l .«data»))) r (getD (now (a .bytes)) (l .i) 0)) (rest-of (l .w) (l .answers))
 
@@ -54,7 +54,7 @@ module _ (c : tie.After-slice-known6 Inv-loop μ-loop) (x : Change) (e : c .befo
   left : (k : ℕ) → callOf x ≡ Answer k → c .before .before .before .before .before .before .before .before .before .before .before .before .before .loop .w + k ≤ length (c .before .before .before .before .before .before .before .before .before .before .before .before .before .loop .answers)
   left k q =
       let l = c .before .before .before .before .before .before .before .before .before .before .before .before .before .loop in
-      let r = answer-room _ _ (l .answers) (l .w) (l .i) (now (c .before .before .before .before .before .before .before .before .before .before .before .before .before .before .before .before .before .before .args .bytes)) (c .before .before .before .before .before .before .before .before .before .before .before .before .loop-test .taken) _ _ _ called k q in
+      let r = answer-room _ _ (l .answers) (l .w) (l .i) (now (c .before .before .before .before .before .before .before .before .before .before .before .before .before .before .before .before .before .before .args .bytes)) (c .before .before .before .before .before .before .before .before .before .before .before .before .loop-test .taken) _ _ _ _ called k q in
       let d = rw length-drop at r in
       omega (arith, d, l .inv .2)
 
@@ -62,7 +62,7 @@ module _ (c : tie.After-slice-known6 Inv-loop μ-loop) (x : Change) (e : c .befo
   short : (k : ℕ) → callOf x ≡ Answer k → k ≤ 16
   short =
       let l = c .before .before .before .before .before .before .before .before .before .before .before .before .before .loop in
-      answer-short _ _ (l .answers) (l .w) (l .i) (now (c .before .before .before .before .before .before .before .before .before .before .before .before .before .before .before .before .before .before .args .bytes)) (c .before .before .before .before .before .before .before .before .before .before .before .before .loop-test .taken) _ _ _ called
+      answer-short _ _ (l .answers) (l .w) (l .i) (now (c .before .before .before .before .before .before .before .before .before .before .before .before .before .before .before .before .before .before .args .bytes)) (c .before .before .before .before .before .before .before .before .before .before .before .before .loop-test .taken) _ _ _ _ called
 
   -- and the feeding goes on behind it
   onward : let l = c .before .before .before .before .before .before .before .before .before .before .before .before .before .loop in let a = c .before .before .before .before .before .before .before .before .before .before .before .before .before .before .before .before .before .before .args in let t = c .before .before .before .before .before .before .byte-change in
@@ -76,7 +76,7 @@ module _ (c : tie.After-slice-known6 Inv-loop μ-loop) (x : Change) (e : c .befo
       ap
       (λ (y : List ℕ). feedFrom (a .chip) (view (changed (l .core) x) (t .last .1 .1 .1 .0) (memory (t .last .1 .1 .1 .1 .0) (t .last .1 .1 .1 .1 .1 .0))) y (l .w + k) (l .i + 1) (drop (l .i + 1) (now (a .bytes))))
       (put-rest (l .w) (l .answers) (t .last .1 .1 .1 .1 .1 .1 .0))
-      ∙ fed-on _ _ (l .answers) (l .w) (l .i) (now (a .bytes)) (c .before .before .before .before .before .before .before .before .before .before .before .before .loop-test .taken) _ _ _ called k q
+      ∙ fed-on _ _ (l .answers) (l .w) (l .i) (now (a .bytes)) (c .before .before .before .before .before .before .before .before .before .before .before .before .loop-test .taken) _ _ _ _ called k q
       ∙ l .inv .0
 
 -- the buffer of answers keeps its length
@@ -99,7 +99,7 @@ returns c =
     (ap
     (λ (x : List ℕ). feeding (view (l .core) (t .last .1 .1 .1 .0) (memory (t .last .1 .1 .1 .1 .0) (t .last .1 .1 .1 .1 .1 .0))) (Refused (c .before .changed .given .0 .0)) (l .i) x)
     (put-rest (l .w) (l .answers) (t .last .1 .1 .1 .1 .1 .1 .0))
-    ∙ fed-stop _ _ (l .answers) (l .w) (l .i) (now (a .bytes)) (k .before .before .before .before .before .before .before .before .before .before .before .before .loop-test .taken) _ _ _ (called k _ told) _ refl
+    ∙ fed-stop _ _ (l .answers) (l .w) (l .i) (now (a .bytes)) (k .before .before .before .before .before .before .before .before .before .before .before .before .loop-test .taken) _ _ _ _ (called k _ told) _ refl
     ∙ l .inv .0) in
     let taken = k .before .before .before .before .before .before .before .before .before .before .before .before .loop-test .taken in (
       e .0,
@@ -107,7 +107,7 @@ returns c =
         e .1,
         (
           λ z. (l .inv .8 z .0, t .ensures .1 refused ∙ l .inv .8 z .1),
-          λ roomy. room-answers _ _ (l .answers) (l .w) (l .i) (now (a .bytes)) taken _ _ _ (called k _ told) (rw (l .inv .4, l .inv .5) (roomy .0)) (rw length-drop (omega (arith, roomy .1, l .inv .9, l .inv .3, taken))),
+          λ roomy. room-answers _ _ (l .answers) (l .w) (l .i) (now (a .bytes)) taken _ _ _ _ (called k _ told) (rw (l .inv .4, l .inv .5) (roomy .0)) (rw length-drop (omega (arith, roomy .1, l .inv .9, l .inv .3, taken))),
         ),
       ),
     )

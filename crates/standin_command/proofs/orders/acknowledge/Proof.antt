@@ -6,7 +6,7 @@ use Rattle.standin_command.proofs.orders.acknowledge.Statement.{stateme
 use Rattle.standin_command.proofs.orders.acknowledge.Tie as tie
 
 returns : tie.Need-returns
-returns c = λ m. comes _ _ _ _ _ m ack _ _ (c .at-rest .ensures) (c .before .before .before .put-one .ensures) (one-short 0x06) (c .before .before .before .before .before .before .pre)
+returns c = λ m. comes _ _ _ _ _ _ m ack _ _ (c .at-rest .ensures) (c .before .before .before .put-one .ensures) (one-short 0x06) (c .before .before .before .before .before .before .pre)
 
 pub acknowledge-spec : {M : Type 1} → statement M
 acknowledge-spec =

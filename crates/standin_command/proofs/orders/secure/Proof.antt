@@ -15,7 +15,7 @@ unfolding secured
 returns c =
     let s = c .before .before .before .before in
     let zero = sym (c .before .before .ifpr .ensures) ∙ c .before .if1 .taken in
-    λ m old. rw (eq-eqb (IFPR (s .args .o)) 0 zero) (comes _ _ _ _ _ m [] _ _ (c .at-rest .ensures) (sym (no-answer _)) (omega arith) (s .pre))
+    λ m old. rw (eq-eqb (IFPR (s .args .o)) 0 zero) (comes _ _ _ _ _ _ m [] _ _ (c .at-rest .ensures) (sym (no-answer _)) (omega arith) (s .pre))
 
 returns-2 : tie.Need-returns-2
 unfolding secured

@@ -9,7 +9,7 @@ returns : tie.Need-returns
 returns c =
     let s = c .before .before .before .before .before .before .before in
     let body = s .args .body .now in
-    λ m. comes _ _ _ _ _ m _ _ _ (c .at-rest .ensures) (c .before .before .before .put-ack-and .ensures ∙ told-put body _ (s .pre .0) (s .pre .1) (s .pre .2)) (told-short body (s .pre .1)) (s .pre .2)
+    λ m. comes _ _ _ _ _ _ m _ _ _ (c .at-rest .ensures) (c .before .before .before .put-ack-and .ensures ∙ told-put body _ (s .pre .0) (s .pre .1) (s .pre .2)) (told-short body (s .pre .1)) (s .pre .2)
 
 pub tell-spec : {M : Type 1} → statement M
 tell-spec =

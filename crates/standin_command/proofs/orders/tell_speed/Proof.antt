@@ -15,7 +15,7 @@ use Rattle.standin_command.proofs.orders.tell_speed.Tie as tie
 returns : tie.Need-returns
 returns c =
     let s = c .before .before .before .before .before .before .before .before in
-    λ m. comes _ _ _ _ _ m _ _ _ (c .at-rest .ensures ∙ ap (λ (p : Phase). resting p Idle (s .args .o)) (c .before .after-speed .ensures)) (c .before .before .before .before .put-frame .ensures ∙ frame-bytes dataStart lastEnd (0x06 ∷ 0x20 ∷ 0x00 ∷ []) _ (omega arith) (omega arith)) (omega (arith, length-frame dataStart lastEnd (0x06 ∷ 0x20 ∷ 0x00 ∷ []))) (s .pre)
+    λ m. comes _ _ _ _ _ _ m _ _ _ (c .at-rest .ensures ∙ ap (λ (p : Phase). resting p Idle (s .args .o)) (c .before .after-speed .ensures)) (c .before .before .before .before .put-frame .ensures ∙ frame-bytes dataStart lastEnd (0x06 ∷ 0x20 ∷ 0x00 ∷ []) _ (omega arith) (omega arith)) (omega (arith, length-frame dataStart lastEnd (0x06 ∷ 0x20 ∷ 0x00 ∷ []))) (s .pre)
 
 pub tell-speed-spec : {M : Type 1} → statement M
 tell-speed-spec =

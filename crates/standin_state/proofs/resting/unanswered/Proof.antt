@@ -1,5 +1,6 @@
 -- `standin_state::resting::unanswered` meets its contract. Assumes nothing.
 use mathlib.Core.Path.{ap}
+use Rattle.rules.specs.declared.Note.the-variants.{Empty}
 use Rattle.rules.specs.Chip.{over}
 use borrow.Author.Needs.{needs}
 use Rattle.standin_state.specs.declared.Core.{Core}
@@ -11,7 +12,7 @@ returns : tie.Need-returns
 unfolding over
 returns c =
     let e = c .at-rest .ensures in
-    λ m reply. (ap (λ (k : Core). frameOutcome (record { core = k; answered = 0 }) m reply) e, ap (λ (k : Core). k .have) e)
+    λ m reply. (ap (λ (k : Core). frameOutcome (record { core = k; answered = 0; note = Empty }) m reply) e, ap (λ (k : Core). k .have) e)
 
 pub unanswered-spec : {M : Type 1} → statement M
 unanswered-spec = tie.close (tie.spec (λ c κs. search needs) returns)

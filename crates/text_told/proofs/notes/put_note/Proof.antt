@@ -1,0 +1,61 @@
+-- `text_told::notes::put_note` meets its contract: by the note, which the match knows. Assumes nothing.
+use Rattle.rules.specs.Text.{noteLine}
+use Rattle.text_out.specs.Out.{add}
+use borrow.Author.Needs.{needs}
+use Rattle.text_told.proofs.notes.put_note.Statement.{statement}
+use Rattle.text_told.proofs.notes.put_note.Tie as tie
+
+enum-told : tie.Need-enum-told
+enum-told c = search needs
+
+enum-known-note : tie.Need-enum-known-note
+enum-known-note c = search needs
+
+put-used-requires : tie.Need-put-used-requires
+put-used-requires c κs = search needs
+
+enum-told-2 : tie.Need-enum-told-2
+enum-told-2 c = search needs
+
+slice-aggregate-put-bytes : tie.Need-slice-aggregate-put-bytes
+slice-aggregate-put-bytes c = search needs
+
+put-bytes-requires : tie.Need-put-bytes-requires
+put-bytes-requires c κs = search needs
+
+returns : tie.Need-returns
+unfolding noteLine add
+returns c =
+    rw (c .enum-told .given .1)
+
+same-length : tie.Need-same-length
+same-length c = search needs
+
+returns-2 : tie.Need-returns-2
+unfolding noteLine add
+returns-2 c =
+    rw (c .before .before .before .before .before .note .given .1) (c .before .before .put-used .ensures)
+
+same-length-2 : tie.Need-same-length-2
+same-length-2 c = search needs
+
+returns-3 : tie.Need-returns-3
+unfolding noteLine add
+returns-3 c =
+    rw (c .before .before .before .before .before .enum-told2 .given .1) (c .before .before .put-bytes .ensures)
+
+pub put-note-spec : {M : Type 1} → statement M
+put-note-spec =
+    tie.close
+    (tie.spec
+    enum-told
+    enum-known-note
+    put-used-requires
+    enum-told-2
+    slice-aggregate-put-bytes
+    put-bytes-requires
+    returns
+    same-length
+    returns-2
+    same-length-2
+    returns-3)

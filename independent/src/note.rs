@@ -11,6 +11,10 @@ pub enum Note {
     NotBlank { area: Area, block: usize, page: usize },
     /// Only an option bit is not 1.
     Options,
+    /// A frame's end byte is not the one due.
+    End,
+    /// A frame's LEN is not the one due.
+    Len { expected: u8, found: u8 },
 }
 
 impl fmt::Display for Note {
@@ -20,6 +24,8 @@ impl fmt::Display for Note {
                 write!(out, "note {} {block} {page}", area.name())
             }
             Note::Options => out.write_str("note options"),
+            Note::End => out.write_str("note end"),
+            Note::Len { expected, found } => write!(out, "note len {expected:02X} {found:02X}"),
         }
     }
 }

@@ -91,7 +91,7 @@ impl Answer {
     }
 }
 
-/// Why a command is refused.
+/// Why a frame is refused.
 struct Fault {
     status: u8,
     note: Option<Note>,
@@ -199,7 +199,7 @@ impl StandIn {
                     None => Answer::default(),
                 },
                 Some(transfer) => match self.receiver.take(byte, DATA_START) {
-                    Some(frame) => Answer::without_note(self.take_page(transfer, &frame)),
+                    Some(frame) => self.take_page(transfer, &frame),
                     None => {
                         self.transfer = Some(transfer);
                         Answer::default()
@@ -224,7 +224,7 @@ impl StandIn {
     /// The answers of a command that is well, or the first fault.
     fn judge_command(&mut self, frame: &Received) -> Result<Vec<u8>, Fault> {
         if frame.end != END {
-            return Err(Fault::from(status::NACK));
+            return Err(Fault::with_note(status::NACK, Note::End));
         }
         if !frame.sum_is_right() {
             return Err(Fault::from(status::CHECKSUM));
@@ -237,7 +237,7 @@ impl StandIn {
         let outcome = if frame.len == rule.len {
             self.obey(code, &frame.body[1..])
         } else {
-            Err(Fault::from(status::NACK))
+            Err(wrong_len(rule.len, frame.len))
         };
         // From here on a fault before phase Command is a LEN, parameter or ID
         // fault in 9Ah or 9Ch.
@@ -357,33 +357,32 @@ impl StandIn {
 
     /// Takes the data frame for the transfer's page. The transfer was taken
     /// out of the record; it goes back only if more frames are due.
-    fn take_page(&mut self, mut transfer: Transfer, frame: &Received) -> Vec<u8> {
+    fn take_page(&mut self, mut transfer: Transfer, frame: &Received) -> Answer {
         let last = transfer.is_at_last();
+        if let Err(Fault { status, note }) = judge_page(frame, last) {
+            return Answer { bytes: frames::answer(&[status, transfer.status_before()]), note };
+        }
         let page = transfer.span.page(transfer.page);
-        let line = line_status(frame, last);
-        let pair = match &mut transfer.work {
+        let second = match &mut transfer.work {
             Work::Write { before } => {
-                if line != status::ACK || *before != status::ACK {
-                    return frames::answer(&[line, *before]);
+                if *before != status::ACK {
+                    return Answer::without_note(frames::answer(&[status::ACK, *before]));
                 }
                 *before = self.write_page(page, &frame.body);
                 // The answer to a page that is not the last tells nothing of
                 // this page: its status goes out with the next frame's.
-                [line, if last { *before } else { status::ACK }]
+                if last { *before } else { status::ACK }
             }
             Work::Verify { differs } => {
-                if line != status::ACK {
-                    return frames::answer(&[line, status::ACK]);
-                }
                 *differs |= self.flash.part(page) != frame.body;
-                [line, if last && *differs { status::VERIFY } else { status::ACK }]
+                if last && *differs { status::VERIFY } else { status::ACK }
             }
         };
         if !last {
             transfer.page += 1;
             self.transfer = Some(transfer);
         }
-        frames::answer(&pair)
+        Answer::without_note(frames::answer(&[status::ACK, second]))
     }
 
     /// Writes a page, or leaves it as it is; gives its write status.
@@ -404,19 +403,33 @@ impl Transfer {
     fn is_at_last(&self) -> bool {
         self.page + 1 == self.span.pages()
     }
+
+    /// The write status that goes out beside a frame's fault.
+    fn status_before(&self) -> u8 {
+        match self.work {
+            Work::Write { before } => before,
+            Work::Verify { .. } => status::ACK,
+        }
+    }
 }
 
-/// The line status of a data frame.
-fn line_status(frame: &Received, last: bool) -> u8 {
+/// Whether a data frame is well: end, SUM and LEN, in that order.
+fn judge_page(frame: &Received, last: bool) -> Result<(), Fault> {
+    const PAGE_LEN: u8 = 0x00;
     if frame.end != frames::page_end(last) {
-        status::NACK
-    } else if !frame.sum_is_right() {
-        status::CHECKSUM
-    } else if frame.len != 0x00 {
-        status::NACK
-    } else {
-        status::ACK
+        return Err(Fault::with_note(status::NACK, Note::End));
     }
+    if !frame.sum_is_right() {
+        return Err(Fault::from(status::CHECKSUM));
+    }
+    if frame.len != PAGE_LEN {
+        return Err(wrong_len(PAGE_LEN, frame.len));
+    }
+    Ok(())
+}
+
+fn wrong_len(expected: u8, found: u8) -> Fault {
+    Fault::with_note(status::NACK, Note::Len { expected, found })
 }
 
 fn ack() -> Vec<u8> {

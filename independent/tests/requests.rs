@@ -254,3 +254,64 @@ mod m100_blank_check {
         assert_eq!(told("code 00000 00\n", "> 01 01 A2 5D 03\n"), "< 02 01 1B E4 03");
     }
 }
+
+mod m101_say_why_a_frame_was_bad {
+    use super::*;
+
+    fn told(line: &str) -> String {
+        in_command("", line).join("|")
+    }
+
+    #[test]
+    fn command_frames() {
+        // Trials 2 to 4 and Reset's LEN.
+        assert_eq!(told("> 01 01 00 FE 03\n"), "< 02 01 07 F8 03");
+        assert_eq!(told("> 01 01 00 FE 17\n"), "< 02 01 15 EA 03|note end");
+        assert_eq!(told("> 01 01 00 FF 00\n"), "< 02 01 15 EA 03|note end");
+        assert_eq!(told("> 01 01 55 AA 03\n"), "< 02 01 04 FB 03");
+        assert_eq!(told("> 01 02 00 00 FE 03\n"), "< 02 01 15 EA 03|note len 01 02");
+        // Erase one byte short; Security Set as 01 had it.
+        assert_eq!(told("> 01 03 22 00 08 D3 03\n"), "< 02 01 15 EA 03|note len 04 03");
+        assert_eq!(told("> 01 03 A0 EF FF 6F 03\n"), "< 02 01 15 EA 03|note len 04 03");
+        // LEN 00h found: 256 bytes.
+        let long = format!("> 01 00{} 00 03\n", " 00".repeat(256));
+        assert_eq!(told(&long), "< 02 01 15 EA 03|note len 01 00");
+    }
+
+    #[test]
+    fn before_phase_command() {
+        let text = answers("!\n> 3A\n> 01 02 9A 00 64 03\n?\n");
+        assert!(text.contains("< 02 01 15 EA 03\nnote len 03 02\nphase Silent\n"), "{text}");
+        let text = answers("!\n> 3A\n> 01 03 9A 00 21 42 17\n?\n");
+        assert!(text.contains("< 02 01 15 EA 03\nnote end\nphase Speed\n"), "{text}");
+    }
+
+    #[test]
+    fn data_frames() {
+        let begin = "> 01 07 40 00 10 0F FF 11 0F 7B 03\n";
+        let page = format!("> 02 00{} 00", " A5".repeat(256));
+        let ack = "< 02 01 06 F9 03";
+        // 03h for 17h at the first of two, 17h for 03h at the second.
+        assert_eq!(
+            told(&format!("{begin}{page} 03\n")),
+            format!("{ack}|< 02 02 15 06 E3 03|note end")
+        );
+        assert_eq!(
+            told(&format!("{begin}{page} 17\n{page} 17\n")),
+            format!("{ack}|< 02 02 06 06 F2 03|< 02 02 15 06 E3 03|note end")
+        );
+        assert_eq!(
+            told(&format!("{begin}> 02 01 00 FF 17\n")),
+            format!("{ack}|< 02 02 15 06 E3 03|note len 00 01")
+        );
+        // A wrong SUM hides a wrong LEN; the write status stays as it was.
+        assert_eq!(
+            told(&format!("{begin}> 02 01 00 FE 17\n")),
+            format!("{ack}|< 02 02 07 06 F1 03")
+        );
+        let dirty = in_command("data F1005 00\n", &format!("{begin}{page} 17\n{page} 17\n"));
+        assert_eq!(dirty[2..], ["< 02 02 15 1C CD 03", "note end"]);
+        let dirty = in_command("data F1005 00\n", &format!("{begin}{page} 17\n{page} 03\n"));
+        assert_eq!(dirty[2..], ["< 02 02 06 1C DC 03"]);
+    }
+}

@@ -35,7 +35,7 @@ pub fn status_byte(v: Fault) -> u8
         Fault::EndByte => 0x15,
         Fault::Sum => 0x07,
         Fault::Code => 0x04,
-        Fault::Length => 0x15,
+        Fault::Length(_, _) => 0x15,
         Fault::Parameter => 0x05,
         Fault::Ident => 0x24,
         Fault::NotBlank(_) => 0x1B,
@@ -51,10 +51,10 @@ pub fn note_of(v: Fault) -> Note
 {
     match v {
         Fault::Well => Note::Empty,
-        Fault::EndByte => Note::Empty,
+        Fault::EndByte => Note::EndByte,
         Fault::Sum => Note::Empty,
         Fault::Code => Note::Empty,
-        Fault::Length => Note::Empty,
+        Fault::Length(due, found) => Note::Length(due, found),
         Fault::Parameter => Note::Empty,
         Fault::Ident => Note::Empty,
         Fault::NotBlank(note) => note,
@@ -126,7 +126,7 @@ pub fn judge_command(frame: &[u8; 260], phase: Phase) -> Fault
         return Fault::Code;
     }
     if !fits {
-        return Fault::Length;
+        return Fault::Length(due, len);
     }
     Fault::Well
 }
@@ -143,8 +143,9 @@ pub fn judge_data(frame: &[u8; 260], last: bool) -> Fault
     if !sums {
         return Fault::Sum;
     }
-    if frame[1] != 0x00 {
-        return Fault::Length;
+    let len = frame[1];
+    if len != 0x00 {
+        return Fault::Length(0x00, len);
     }
     Fault::Well
 }

@@ -8,6 +8,7 @@ use Rattle.rules.specs.Trials.{further, sheets, lengths, playerCalls}
 use Rattle.rules.proofs.Rows.{All, Held, all-held, Played, all-played, Lent, all-lent, Answers, all-answer}
 use Rattle.rules.specs.Texts.{allPrint, printed, texts}
 use Rattle.rules.specs.Blank.{blankChecks}
+use Rattle.rules.specs.BadFrames.{badFrames}
 use Rattle.rules.specs.Chips.{chipLengths, chipSessions, chipSheets}
 
 -- THE STARRED TRIALS, 1 to 12
@@ -57,6 +58,11 @@ pub blank-checks : allHold blankChecks ≡ true
 unfolding everything comesLast stateAfter exchanged holds allHold blankChecks
 blank-checks = refl
 
+-- M-101: bad frames, and which fault the note names
+pub bad-frames : allHold badFrames ≡ true
+unfolding everything comesLast stateAfter exchanged holds allHold badFrames
+bad-frames = refl
+
 -- ---- what the rows say ----
 
 pub starred-say : All Held starred
@@ -85,3 +91,6 @@ chip-sheets-say = all-played chipSheets chip-sheets
 
 pub blank-checks-say : All Held blankChecks
 blank-checks-say = all-held blankChecks blank-checks
+
+pub bad-frames-say : All Held badFrames
+bad-frames-say = all-held badFrames bad-frames

@@ -185,7 +185,7 @@ frameChecks phase f =
     rule EndByte (not (eqb (endOf f) lastEnd))
     ∷ rule Sum (not (sumHolds f))
     ∷ rule Code (not (allowed phase (lookup rows (codeOf f))))
-    ∷ rule Length (not (eqb (lenOf f) (lenDue (lookup rows (codeOf f)))))
+    ∷ rule (Length (lenDue (lookup rows (codeOf f))) (lenOf f)) (not (eqb (lenOf f) (lenDue (lookup rows (codeOf f)))))
     ∷ []
 
 -- 02, M-100: "names the first byte that is not FFh by block and page (block in its flash, page in its block, from 0), with its flash, lowest

@@ -7,6 +7,7 @@ use lib.ListN.{length, take, drop}
 use Rattle.rules.specs.declared.Fault.{Fault}
 use Rattle.rules.specs.declared.Note.{Note}
 use Rattle.rules.specs.declared.Note.the-variants.{Empty}
+use Rattle.rules.specs.declared.Note.the-variants as note
 use Rattle.rules.specs.declared.Fault.the-variants.{Well, EndByte, Sum, Code, Length, Parameter, Ident, NotBlank, Protected, PageNotBlank, Difference}
 use Rattle.rules.specs.First.{rule, firstFault}
 use Rattle.rules.specs.Chip.{byteAt, total}
@@ -82,7 +83,7 @@ statusByte Well = 0x06
 statusByte EndByte = 0x15
 statusByte Sum = 0x07
 statusByte Code = 0x04
-statusByte Length = 0x15
+statusByte (Length due found) = 0x15
 statusByte Parameter = 0x05
 statusByte Ident = 0x24
 statusByte (NotBlank n) = 0x1B
@@ -90,13 +91,13 @@ statusByte Protected = 0x10
 statusByte PageNotBlank = 0x1C
 statusByte Difference = 0x0F
 
--- 02, M-100: what the note tells of it
+-- 02, M-100 and M-101: what the note tells of it
 abbrev pub noteOf : Fault → Note
 noteOf Well = Empty
-noteOf EndByte = Empty
+noteOf EndByte = note.EndByte
 noteOf Sum = Empty
 noteOf Code = Empty
-noteOf Length = Empty
+noteOf (Length due found) = note.Length due found
 noteOf Parameter = Empty
 noteOf Ident = Empty
 noteOf (NotBlank n) = n
@@ -110,5 +111,5 @@ dataFault last f =
     firstFault
     (rule EndByte (not (eqb (endOf f) (endDue last)))
     ∷ rule Sum (not (sumHolds f))
-    ∷ rule Length (not (eqb (lenOf f) 0x00))
+    ∷ rule (Length 0x00 (lenOf f)) (not (eqb (lenOf f) 0x00))
     ∷ [])

@@ -19,3 +19,4 @@ pub mod Trials
 pub mod Texts
 pub mod Chips
 pub mod Blank
+pub mod BadFrames

@@ -15,7 +15,7 @@ use Rattle.rules.specs.declared.Status.the-variants.{Byte, L1}
 use Rattle.rules.specs.declared.Flash.{Flash}
 use Rattle.rules.specs.declared.Flash.the-variants.{Code, Data}
 use Rattle.rules.specs.declared.Note.{Note}
-use Rattle.rules.specs.declared.Note.the-variants.{Empty, Used, Bits}
+use Rattle.rules.specs.declared.Note.the-variants.{Empty, Used, Bits, EndByte, Length}
 use Rattle.rules.specs.declared.Kind.{Kind}
 use Rattle.rules.specs.declared.Kind.the-variants.{Erase, Write, Verify, Sum}
 
@@ -69,7 +69,7 @@ kindNumber Write = 2
 kindNumber Verify = 3
 kindNumber Sum = 4
 
--- 02, M-100: what a note says, in numbers: which note it is, then its flash (0 code, 1 data), block and page
+-- 02, M-100 and M-101: what a note says, in numbers: which note it is; then its flash (0 code, 1 data), block and page, or the LEN expected and found
 abbrev pub flashNumber : Flash → ℕ
 flashNumber Code = 0
 flashNumber Data = 1
@@ -78,3 +78,5 @@ abbrev pub noteNumbers : Note → List ℕ
 noteNumbers Empty = []
 noteNumbers (Used f b k) = 1 ∷ flashNumber f ∷ b .0 ∷ k ∷ []
 noteNumbers Bits = 2 ∷ []
+noteNumbers EndByte = 3 ∷ []
+noteNumbers (Length due found) = 4 ∷ due ∷ found ∷ []

@@ -271,9 +271,12 @@ session o m xs after =
       memoryAfter = after;
     }
 
--- a fresh chip's answer to bytes that change nothing
+-- a fresh chip's answer to bytes that change nothing, with its note or with none
+abbrev pub onFreshNoted : List ℕ → List ℕ → Note → Session
+onFreshNoted sent due note = session freshOptions blankFlash (toNoted sent due note ∷ []) blankFlash
+
 abbrev pub onFresh : List ℕ → List ℕ → Session
-onFresh sent due = session freshOptions blankFlash (to sent due ∷ []) blankFlash
+onFresh sent due = onFreshNoted sent due Empty
 
 -- one that is opened and ends with other options
 abbrev pub optioned : Options → Options → List Exchange → Session

@@ -39,7 +39,7 @@ silences Well = false
 silences EndByte = false
 silences Sum = false
 silences fault.Code = false
-silences Length = true
+silences (Length due found) = true
 silences Parameter = true
 silences fault.Ident = true
 silences (NotBlank n) = false
@@ -93,7 +93,8 @@ pairEnds a b s m = out (rest (s .phase) Idle (s .options) m) (pair a b)
 -- Programming: line status, and the write status "of the page before"; of the last page its own
 unfoldable pub onPage : Pages → State → List ℕ → Out
 onPage p s f =
-    let line = statusByte (dataFault (lastPage p) f) in
+    let fault = dataFault (lastPage p) f in
+    let line = statusByte fault in
     let guarded = pageGuarded (s .options) p in
     let st = statusByte (pageFault guarded (pageOf (s .memory) (p .flash) (p .page))) in
     let m = pageWritten guarded (s .memory) p (bodyOf f) in
@@ -101,7 +102,7 @@ onPage p s f =
     let last = pairEnds 0x06 st s m in
     cond (eqb line 0x06 && eqb (p .status) 0x06)
     (cond (lastPage p) last more)
-    (pairEnds line (p .status) s (s .memory))
+    (noted (noteOf fault) (pairEnds line (p .status) s (s .memory)))
 
 -- Verify: "A difference in any page is told only in the last answer"
 unfoldable pub compared : Memory → Pages → List ℕ → ℕ
@@ -111,11 +112,12 @@ compared m p body =
 
 unfoldable pub onCompare : Pages → State → List ℕ → Out
 onCompare p s f =
-    let line = statusByte (dataFault (lastPage p) f) in
+    let fault = dataFault (lastPage p) f in
+    let line = statusByte fault in
     let st = compared (s .memory) p (bodyOf f) in
     let more = out (rest (s .phase) (Verifying (later p st)) (s .options) (s .memory)) (pair 0x06 0x06) in
     let last = pairEnds 0x06 st s (s .memory) in
-    cond (eqb line 0x06) (cond (lastPage p) last more) (pairEnds line 0x06 s (s .memory))
+    cond (eqb line 0x06) (cond (lastPage p) last more) (noted (noteOf fault) (pairEnds line 0x06 s (s .memory)))
 
 -- the command begun: only in Command, and only while its pages are there
 abbrev pub ahead : Chip → Pages → Bool

@@ -1,8 +1,9 @@
 -- 01, Trials: the starred ones, 1 to 12, row for row. Phase Command, fresh chip, unless said. Assumes nothing.
 use mathlib.Core.List.{List, [], _∷_, _++_}
+use Rattle.rules.specs.declared.Note.the-variants.{EndByte}
 use Rattle.rules.specs.Options.{freshOptions}
 use Rattle.rules.specs.Frame.{lastEnd, moreEnd}
-use Rattle.rules.specs.Rows.{Session, to, session, onFresh, blankFlash, noBoot, ack, twoPages, page, badSum, paged}
+use Rattle.rules.specs.Rows.{Session, to, session, onFresh, onFreshNoted, blankFlash, noBoot, ack, twoPages, page, badSum, paged}
 
 unfoldable pub starred : List Session
 starred =
@@ -11,7 +12,7 @@ starred =
     -- 2. With SUM FE
     ∷ onFresh (0x01 ∷ 0x01 ∷ 0x00 ∷ 0xFE ∷ 0x03 ∷ []) (0x02 ∷ 0x01 ∷ 0x07 ∷ 0xF8 ∷ 0x03 ∷ [])
     -- 3. With SUM FE and end 17
-    ∷ onFresh (0x01 ∷ 0x01 ∷ 0x00 ∷ 0xFE ∷ 0x17 ∷ []) (0x02 ∷ 0x01 ∷ 0x15 ∷ 0xEA ∷ 0x03 ∷ [])
+    ∷ onFreshNoted (0x01 ∷ 0x01 ∷ 0x00 ∷ 0xFE ∷ 0x17 ∷ []) (0x02 ∷ 0x01 ∷ 0x15 ∷ 0xEA ∷ 0x03 ∷ []) EndByte
     -- 4. 01 01 55 AA 03
     ∷ onFresh (0x01 ∷ 0x01 ∷ 0x55 ∷ 0xAA ∷ 0x03 ∷ []) (0x02 ∷ 0x01 ∷ 0x04 ∷ 0xFB ∷ 0x03 ∷ [])
     -- 5. 01 01 A1 5E 03

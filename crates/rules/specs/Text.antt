@@ -18,7 +18,7 @@ use Rattle.rules.specs.declared.Report.{Report}
 use Rattle.rules.specs.declared.Flash.{Flash}
 use Rattle.rules.specs.declared.Flash.the-variants.{Code, Data}
 use Rattle.rules.specs.declared.Note.{Note}
-use Rattle.rules.specs.declared.Note.the-variants.{Empty, Used, Bits}
+use Rattle.rules.specs.declared.Note.the-variants.{Empty, Used, Bits, EndByte, Length}
 use Rattle.rules.specs.Sheet.{count, stepAt}
 use Rattle.rules.specs.Numbers.{refusalNumber}
 
@@ -88,7 +88,7 @@ refusedLine n =
 abbrev pub busyLine : List ℕ
 busyLine = ascii "refused busy\n"
 
--- 02, M-100: the line of a note; none where it is empty
+-- 02, M-100 and M-101: the line of a note; none where it is empty
 unfoldable pub flashText : Flash → List ℕ
 flashText Code = ascii "code"
 flashText Data = ascii "data"
@@ -97,6 +97,8 @@ unfoldable pub noteLine : Note → List ℕ
 noteLine Empty = []
 noteLine (Used f b k) = ascii "note " ++ flashText f ++ ascii " " ++ decimal (b .0) ++ ascii " " ++ decimal k ++ ascii "\n"
 noteLine Bits = ascii "note options\n"
+noteLine EndByte = ascii "note end\n"
+noteLine (Length due found) = ascii "note len " ++ hex2 due ++ ascii " " ++ hex2 found ++ ascii "\n"
 
 -- ---- a play: the sheet, the report, the list of sums, and the list of the frames sent for each step ----
 

@@ -4,6 +4,7 @@ use mathlib.Core.Bool.{true}
 use Prim.Native.Nat.{ℕ}
 use lib.ListN.{set, take, replicate}
 use Rattle.rules.specs.declared.Kind.the-variants.{Erase, Write, Verify, Sum}
+use Rattle.rules.specs.declared.Note.the-variants.{EndByte, Length}
 use Rattle.rules.specs.declared.Options.{Options}
 use Rattle.rules.specs.declared.Player.{Player}
 use Rattle.rules.specs.declared.Stage.the-variants.{Ready, Block, Commanded, Page, Paged, Over}
@@ -13,7 +14,7 @@ use Rattle.rules.specs.Chip.{Memory, small}
 use Rattle.rules.specs.Options.{freshOptions}
 use Rattle.rules.specs.Frame.{dataStart, lastEnd, moreEnd, frame}
 use Rattle.rules.specs.Player.{player, newPlayer, well}
-use Rattle.rules.specs.Rows.{plain, D, J, P, L, Exchange, to, Session, Play, noSums, unreached, mode, speed, Lending, Calling, blankFlash, ack, session, onFresh, optioned, ending, flags, noBoot, noErase, noWrite, askIdent, command, filled, page, badSum, one, pair, onePage, twoPages, paged, entryIn, entry}
+use Rattle.rules.specs.Rows.{plain, D, J, P, L, Exchange, to, toNoted, Session, Play, noSums, unreached, mode, speed, Lending, Calling, blankFlash, ack, session, onFresh, onFreshNoted, optioned, ending, flags, noBoot, noErase, noWrite, askIdent, command, filled, page, badSum, one, pair, onePage, twoPages, paged, entryIn, entry}
 
 -- ---- sessions ----
 
@@ -83,20 +84,20 @@ further =
     ∷ session
     freshOptions
     blankFlash
-    (to (twoPages 0x40) ack ∷ to cancel (pair 0x15 0x06) ∷ reset ∷ [])
+    (to (twoPages 0x40) ack ∷ toNoted cancel (pair 0x15 0x06) EndByte ∷ reset ∷ [])
     blankFlash
     ∷ session
     freshOptions
     blankFlash
-    (to (twoPages 0x40) ack ∷ to (page moreEnd 0xA5) (pair 0x06 0x06) ∷ to cancel (pair 0x15 0x06) ∷ reset ∷ [])
+    (to (twoPages 0x40) ack ∷ to (page moreEnd 0xA5) (pair 0x06 0x06) ∷ toNoted cancel (pair 0x15 0x06) EndByte ∷ reset ∷ [])
     (paged 0 0xA5 blankFlash)
     ∷ session
     freshOptions
     blankFlash
-    (to (twoPages 0x13) ack ∷ to (page moreEnd 0xA5) (pair 0x06 0x06) ∷ to cancel (pair 0x15 0x06) ∷ reset ∷ [])
+    (to (twoPages 0x13) ack ∷ to (page moreEnd 0xA5) (pair 0x06 0x06) ∷ toNoted cancel (pair 0x15 0x06) EndByte ∷ reset ∷ [])
     blankFlash
     -- 03h for 17h; 17h as a byte of a page
-    ∷ session freshOptions blankFlash (to (twoPages 0x40) ack ∷ to (page lastEnd 0xA5) (pair 0x15 0x06) ∷ []) blankFlash
+    ∷ session freshOptions blankFlash (to (twoPages 0x40) ack ∷ toNoted (page lastEnd 0xA5) (pair 0x15 0x06) EndByte ∷ []) blankFlash
     ∷ session
     freshOptions
     blankFlash
@@ -106,7 +107,7 @@ further =
     ∷ session
     freshOptions
     blankFlash
-    (to (onePage 0x40) ack ∷ to (frame dataStart lastEnd (0xA5 ∷ [])) (pair 0x15 0x06) ∷ [])
+    (to (onePage 0x40) ack ∷ toNoted (frame dataStart lastEnd (0xA5 ∷ [])) (pair 0x15 0x06) (Length 0 1) ∷ [])
     blankFlash
     -- a page not blank, alone; a protected page: 10h, told at the last page; then at the page after
     ∷ session
@@ -225,20 +226,20 @@ further =
     freshOptions
     (to mode []
     ∷ to (0x01 ∷ 0x03 ∷ 0x9A ∷ 0x00 ∷ 0x21 ∷ 0x43 ∷ 0x03 ∷ []) (one 0x07)
-    ∷ to (0x01 ∷ 0x03 ∷ 0x9A ∷ 0x00 ∷ 0x21 ∷ 0x42 ∷ 0x17 ∷ []) (one 0x15)
+    ∷ toNoted (0x01 ∷ 0x03 ∷ 0x9A ∷ 0x00 ∷ 0x21 ∷ 0x42 ∷ 0x17 ∷ []) (one 0x15) EndByte
     ∷ [])
     ∷ ending 2 askIdent askIdent (opening ++ (to (0x01 ∷ 0x01 ∷ 0x9C ∷ 0x00 ∷ 0x03 ∷ []) (one 0x07) ∷ []))
-    ∷ ending 4 freshOptions freshOptions (to mode [] ∷ to (command (0x9A ∷ 0x00 ∷ [])) (one 0x15) ∷ to speed [] ∷ [])
+    ∷ ending 4 freshOptions freshOptions (to mode [] ∷ toNoted (command (0x9A ∷ 0x00 ∷ [])) (one 0x15) (Length 3 2) ∷ to speed [] ∷ [])
     -- the status bytes not met above: end byte, SUM and code of a command; LEN not the command's; an erase address inside a block
-    ∷ onFresh (0x01 ∷ 0x01 ∷ 0x00 ∷ 0xFF ∷ 0x17 ∷ []) (one 0x15)
+    ∷ onFreshNoted (0x01 ∷ 0x01 ∷ 0x00 ∷ 0xFF ∷ 0x17 ∷ []) (one 0x15) EndByte
     ∷ onFresh (0x01 ∷ 0x01 ∷ 0x00 ∷ 0x00 ∷ 0x03 ∷ []) (one 0x07)
     ∷ onFresh (command (0x55 ∷ [])) (one 0x04)
-    ∷ onFresh (command (0x32 ∷ [])) (one 0x15)
-    ∷ onFresh (command (0x00 ∷ 0x00 ∷ [])) (one 0x15)
+    ∷ onFreshNoted (command (0x32 ∷ [])) (one 0x15) (Length 8 1)
+    ∷ onFreshNoted (command (0x00 ∷ 0x00 ∷ [])) (one 0x15) (Length 1 2)
     ∷ onFresh (command (0x22 ∷ 0x01 ∷ 0x00 ∷ 0x00 ∷ [])) (one 0x05)
     -- bytes before the start byte are skipped; LEN 00h is 256 bytes
     ∷ onFresh (0x03 ∷ 0x02 ∷ 0x00 ∷ command (0x00 ∷ [])) ack
-    ∷ onFresh (command (replicate 256 0x00)) (one 0x15)
+    ∷ onFreshNoted (command (replicate 256 0x00)) (one 0x15) (Length 1 0)
     ∷ []
 
 -- ---- sheets ----

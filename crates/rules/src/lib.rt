@@ -96,12 +96,14 @@ pub enum Decoded {
     Bad,
 }
 
-// The stand-in's own note, off the wire, on one byte: nothing; the first byte in use, by its flash, its block there and its page in the block; or
-// an option bit that is not 1.
+// The stand-in's own note, off the wire, on one byte: nothing; the first byte in use, by its flash, its block there and its page in the block; an
+// option bit that is not 1; a wrong end byte; or a wrong length, by the LEN expected and the LEN found.
 pub enum Note {
     Empty,
     Used(Flash, Block, usize),
     Bits,
+    EndByte,
+    Length(u8, u8),
 }
 
 // The verdict on a frame: the first row of 01's status table that applies, with what the note tells of it.
@@ -110,7 +112,7 @@ pub enum Fault {
     EndByte,
     Sum,
     Code,
-    Length,
+    Length(u8, u8),
     Parameter,
     Ident,
     NotBlank(Note),

@@ -31,7 +31,7 @@ fn silences(v: Fault) -> bool
         Fault::EndByte => false,
         Fault::Sum => false,
         Fault::Code => false,
-        Fault::Length => true,
+        Fault::Length(_, _) => true,
         Fault::Parameter => true,
         Fault::Ident => true,
         Fault::NotBlank(_) => false,

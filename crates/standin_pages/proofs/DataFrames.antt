@@ -11,13 +11,14 @@ use Rattle.rules.specs.declared.Chip.{Chip}
 use Rattle.rules.specs.declared.Flash.{Flash}
 use Rattle.rules.specs.declared.Flash.the-variants.{Code, Data}
 use Rattle.rules.specs.declared.Fault.the-variants.{EndByte, Sum, Length, Difference}
+use Rattle.rules.specs.declared.Note.{Note}
 use Rattle.rules.specs.declared.Pages.{Pages}
 use Rattle.rules.specs.declared.Task.{Task}
 use Rattle.rules.specs.declared.Task.the-variants.{Programming, Verifying}
 use Rattle.rules.specs.Chip.{Memory, same, flashOf, flashSize, pages, pageOf, pageShown}
 use Rattle.rules.specs.First.{rule, first, firstFault}
-use Rattle.rules.specs.Frame.{lenOf, endOf, bodyOf, bodySize, endDue, sumHolds, pair, statusByte, dataFault}
-use Rattle.rules.specs.StandIn.{State, Out, Outcome, out, rest, later, lastPage, pageFault, pageWritten, pageGuarded, pairEnds, onPage, compared, onCompare, ahead, answered}
+use Rattle.rules.specs.Frame.{lenOf, endOf, bodyOf, bodySize, endDue, sumHolds, pair, statusByte, noteOf, dataFault}
+use Rattle.rules.specs.StandIn.{State, Out, Outcome, out, noted, rest, later, lastPage, pageFault, pageWritten, pageGuarded, pairEnds, onPage, compared, onCompare, ahead, answered}
 use Rattle.chip_flash.specs.Writing.{Wrote, wrote, programmed}
 use Rattle.rules.proofs.Choices.{both}
 use Rattle.chip_finder.proofs.Geometry.{in-pages, pages-bound}
@@ -65,7 +66,7 @@ module _ (chip : Chip) (p : Pages) (h : ahead chip p ≡ true) where
 pub len-none : (last : Bool) (f : List ℕ) → statusByte (dataFault last f) ≡ 0x06 → lenOf f ≡ 0
 unfolding dataFault
 len-none last f e =
-    let q = first-quiet (rule EndByte (not (eqb (endOf f) (endDue last))) ∷ rule Sum (not (sumHolds f)) ∷ rule Length (not (eqb (lenOf f) 0x00)) ∷ []) refl (well-byte _ e) in
+    let q = first-quiet (rule EndByte (not (eqb (endOf f) (endDue last))) ∷ rule Sum (not (sumHolds f)) ∷ rule (Length 0x00 (lenOf f)) (not (eqb (lenOf f) 0x00)) ∷ []) refl (well-byte _ e) in
     eqb-true (lenOf f) 0 (not-false _ (q .1 .1 .0))
 
 -- so its body is 256 bytes
@@ -97,19 +98,20 @@ module _ (begun : Pages → Task) (p : Pages) (s : State) (st : ℕ) (m : Memory
   told-more e q l = rw (e, l)
 
 module _ (p : Pages) (s : State) (b : List ℕ) (line : ℕ) (judged : line ≡ statusByte (dataFault (lastPage p) (frameIn b))) where
-  -- Programming: a frame fault, or an error in the page before
-  pub page-refused : (line ≡ 0x06 → ⊥) → pairEnds line (p .status) s (s .memory) ≡ onPage p s (frameIn b)
-  unfolding onPage
-  page-refused n = simp (← judged, ne-eqb _ _ n)
+  module _ (note : Note) (told-so : note ≡ noteOf (dataFault (lastPage p) (frameIn b))) where
+    -- Programming: a frame fault, or an error in the page before
+    pub page-refused : (line ≡ 0x06 → ⊥) → noted note (pairEnds line (p .status) s (s .memory)) ≡ onPage p s (frameIn b)
+    unfolding onPage
+    page-refused n = simp (told-so, ← judged, ne-eqb _ _ n)
 
-  pub page-stopped : line ≡ 0x06 → (p .status ≡ 0x06 → ⊥) → pairEnds line (p .status) s (s .memory) ≡ onPage p s (frameIn b)
-  unfolding onPage
-  page-stopped l n = simp (← judged, eq-eqb _ _ l, ne-eqb _ _ n)
+    pub page-stopped : line ≡ 0x06 → (p .status ≡ 0x06 → ⊥) → noted note (pairEnds line (p .status) s (s .memory)) ≡ onPage p s (frameIn b)
+    unfolding onPage
+    page-stopped l n = simp (told-so, ← judged, eq-eqb _ _ l, ne-eqb _ _ n)
 
-  -- Verify: a frame fault
-  pub compare-refused : (line ≡ 0x06 → ⊥) → pairEnds line 0x06 s (s .memory) ≡ onCompare p s (frameIn b)
-  unfolding onCompare
-  compare-refused n = simp (← judged, ne-eqb _ _ n)
+    -- Verify: a frame fault
+    pub compare-refused : (line ≡ 0x06 → ⊥) → noted note (pairEnds line 0x06 s (s .memory)) ≡ onCompare p s (frameIn b)
+    unfolding onCompare
+    compare-refused n = simp (told-so, ← judged, ne-eqb _ _ n)
 
   module _ (chip : Chip) {reply : List ℕ} (pre : (ahead chip p ≡ true) × Fits chip (s .memory .code) (s .memory .«data») reply) (well : line ≡ 0x06) where
     -- else the page is written or left

@@ -14,17 +14,17 @@ ghost use mathlib.Core.Bool.{true, cond, _&&_};
 ghost use lib.Dec.{eqb};
 ghost use Prim.Native.Nat.{_+_, _<_, _≤_};
 ghost use lib.ListN.{length};
-ghost use Rattle.rules.specs.StandIn.{ahead, later, onPage, onCompare, answered, lentVerdict, out, rest};
+ghost use Rattle.rules.specs.StandIn.{ahead, later, onPage, onCompare, answered, lentVerdict, out, noted, rest};
 ghost use Rattle.rules.specs.Chip.{Memory};
 ghost use Rattle.rules.specs.Frame.{pair};
 ghost use Rattle.chip_finder.specs.LentFlashes.{memory};
 ghost use Rattle.frame_build.specs.Buffer.{frameIn};
 ghost use Rattle.standin_state.specs.View.{idle, frameOutcome, Comes, Fits, handedPage};
 
-// The pair is sent; the command goes on with that task, or has ended with none.
-fn paired(c: Core, task: Task, line: u8, status: u8, reply: &mut [u8]) -> Response
+// The pair is sent, with that note; the command goes on with that task, or has ended with none.
+fn paired(c: Core, task: Task, line: u8, status: u8, note: Note, reply: &mut [u8]) -> Response
     requires { ⌜ 16 ≤ length (now reply) ⌝ }
-    ensures { λ r. ⌜ ((m : Memory) → frameOutcome r m (now (reply .exit)) ≡ answered (out (rest (c .phase) task (c .options) m) (pair line status)) (now (reply .entry))) ⌝ }
+    ensures { λ r. ⌜ ((m : Memory) → frameOutcome r m (now (reply .exit)) ≡ answered (noted note (out (rest (c .phase) task (c .options) m) (pair line status))) (now (reply .entry))) ⌝ }
     ensures { λ r. ⌜ r .core .have ≡ 0 ⌝ }
 {
     let phase = c.phase;
@@ -34,7 +34,7 @@ fn paired(c: Core, task: Task, line: u8, status: u8, reply: &mut [u8]) -> Respon
     Response {
         core,
         answered: n,
-        note: Note::Empty,
+        note,
     }
 }
 
@@ -69,21 +69,25 @@ fn program(
 {
     let last = p.left == 1;
     let status_before = p.status;
-    let line = frame_judge::status_byte(frame_judge::judge_data(frame, last));
+    let fault = frame_judge::judge_data(frame, last);
+    let line = frame_judge::status_byte(fault);
     if line != 0x06 {
-        return paired(c, Task::Idle, line, status_before, reply);
+        let note = frame_judge::note_of(fault);
+        return paired(c, Task::Idle, line, status_before, note, reply);
     }
     if status_before != 0x06 {
-        return paired(c, Task::Idle, line, status_before, reply);
+        let note = frame_judge::note_of(fault);
+        return paired(c, Task::Idle, line, status_before, note, reply);
     }
     let o = c.options;
     let f = p.flash;
     let guarded = chip_options::protect::page_protected(o, f, p.page);
     let st = chip_flash::pages::program_page(chip, guarded, p, code, data, frame);
     if last {
-        return paired(c, Task::Idle, 0x06, st, reply);
+        return paired(c, Task::Idle, 0x06, st, Note::Empty, reply);
     }
-    paired(c, Task::Programming(later(p, st)), 0x06, 0x06, reply)
+    let next = Task::Programming(later(p, st));
+    paired(c, next, 0x06, 0x06, Note::Empty, reply)
 }
 
 // A page of Verify: judged and compared; a difference is told only with the last page.
@@ -102,18 +106,21 @@ fn compare(
 {
     let last = p.left == 1;
     let before = p.status;
-    let line = frame_judge::status_byte(frame_judge::judge_data(frame, last));
+    let fault = frame_judge::judge_data(frame, last);
+    let line = frame_judge::status_byte(fault);
     if line != 0x06 {
-        return paired(c, Task::Idle, line, 0x06, reply);
+        let note = frame_judge::note_of(fault);
+        return paired(c, Task::Idle, line, 0x06, note, reply);
     }
     let told = compared(
         before,
         chip_flash::pages::page_equals(chip, p, code, data, frame),
     );
     if last {
-        return paired(c, Task::Idle, 0x06, told, reply);
+        return paired(c, Task::Idle, 0x06, told, Note::Empty, reply);
     }
-    paired(c, Task::Verifying(later(p, told)), 0x06, 0x06, reply)
+    let more = Task::Verifying(later(p, told));
+    paired(c, more, 0x06, 0x06, Note::Empty, reply)
 }
 
 // 06h as long as every page so far was equal.

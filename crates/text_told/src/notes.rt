@@ -4,8 +4,9 @@ use rules::Note;
 use text_out::put;
 use text_out::put_bytes;
 use text_out::put_decimal;
+use text_out::put_hex2;
 ghost use mathlib.Core.Path.{_≡_};
-ghost use Rattle.rules.specs.declared.Note.the-variants.{Used};
+ghost use Rattle.rules.specs.declared.Note.the-variants.{Used, Length};
 ghost use Rattle.rules.specs.Chip.{block};
 ghost use Rattle.rules.specs.Text.{flashText, noteLine};
 ghost use Rattle.text_out.specs.Out.{out, add};
@@ -32,6 +33,17 @@ fn put_used(buf: &mut [u8], at: usize, f: Flash, number: u16, page: usize) -> us
     put(buf, at, b'\n')
 }
 
+// `note len 04 03`
+fn put_length(buf: &mut [u8], at: usize, due: u8, found: u8) -> usize
+    ensures { λ r. ⌜ out r (now (buf .exit)) ≡ add (noteLine (Length due found)) (out at (now (buf .entry))) ⌝ }
+{
+    let at = put_bytes(buf, at, b"note len ");
+    let at = put_hex2(buf, at, due);
+    let at = put(buf, at, b' ');
+    let at = put_hex2(buf, at, found);
+    put(buf, at, b'\n')
+}
+
 pub fn put_note(buf: &mut [u8], at: usize, note: Note) -> usize
     ensures { λ r. ⌜ out r (now (buf .exit)) ≡ add (noteLine note) (out at (now (buf .entry))) ⌝ }
 {
@@ -39,5 +51,7 @@ pub fn put_note(buf: &mut [u8], at: usize, note: Note) -> usize
         Note::Empty => at,
         Note::Used(f, b, k) => put_used(buf, at, f, b.0, k),
         Note::Bits => put_bytes(buf, at, b"note options\n"),
+        Note::EndByte => put_bytes(buf, at, b"note end\n"),
+        Note::Length(due, found) => put_length(buf, at, due, found),
     }
 }

@@ -310,7 +310,7 @@ impl Script<'_> {
     fn damaged(&mut self, mut frame: Vec<u8>) -> Vec<u8> {
         let end = frame.len() - 1;
         let sum = frame.len() - 2;
-        match self.random.below(13) {
+        match self.random.below(16) {
             0 => frame[end] = MORE,
             1 => frame[end] = self.random.other_byte(END),
             2 => frame[sum] = self.random.other_byte(frame[sum]),
@@ -324,14 +324,14 @@ impl Script<'_> {
                 frame[1] = len;
             }
             // Well formed, but one byte too many or too few for the command.
-            6 => {
+            6 | 13 => {
                 let mut body = frame[2..sum].to_vec();
                 if body.len() < 256 {
                     body.push(self.random.byte());
                 }
                 frame = frames::build(COMMAND_START, &body, END);
             }
-            7 => {
+            7 | 14 => {
                 let body = frame[2..sum - 1].to_vec();
                 if !body.is_empty() {
                     frame = frames::build(COMMAND_START, &body, END);

@@ -40,6 +40,9 @@ pub fn in_command(preparation: &str, script: &str) -> Vec<String> {
         .collect()
 }
 
+/// The same for one frame, on the wire alone: notes are left out.
 pub fn answer_to(preparation: &str, frame: &str) -> String {
-    in_command(preparation, &format!("> {frame}\n")).join("|")
+    let mut lines = in_command(preparation, &format!("> {frame}\n"));
+    lines.retain(|line| !line.starts_with("note"));
+    lines.join("|")
 }

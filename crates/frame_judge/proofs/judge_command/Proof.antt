@@ -4,6 +4,7 @@ use mathlib.Core.Bool.{not}
 use mathlib.Core.List.{[], _∷_}
 use lib.Dec.{eqb}
 use Rattle.rules.specs.declared.Fault.the-variants.{Code, Length}
+use Rattle.rules.specs.declared.CodeRow.{CodeRow}
 use Rattle.rules.specs.declared.CodeRow.the-variants.{Row}
 use Rattle.rules.specs.First.{rule, firstFault}
 use Rattle.rules.specs.Frame.{lastEnd, lenOf}
@@ -22,7 +23,7 @@ whole : (c : tie.Else2) → let a = c .before .before .before .before .before .a
     firstFault (frameChecks (a .phase) (frameIn f))
     ≡ firstFault
     (rule Code (not (allowed (a .phase) (lookup rows (codeOf f))))
-    ∷ rule Length (not (eqb (lenOf f) (lenDue (lookup rows (codeOf f)))))
+    ∷ rule (Length (lenDue (lookup rows (codeOf f))) (lenOf f)) (not (eqb (lenOf f) (lenDue (lookup rows (codeOf f)))))
     ∷ [])
 unfolding frameChecks
 whole c =
@@ -37,7 +38,7 @@ row-is c = sym (c .before .before .row-of .ensures) ∙ c .due .given .1
 -- the row allows the phase: LEN decides
 coded : (c : tie.Else3) → let a = c .before .before .before .before .before .before .before .before .before .before .before .before .args in
     let f = a .frame .now in
-    firstFault (frameChecks (a .phase) (frameIn f)) ≡ firstFault (rule Length (not (eqb (lenOf f) (lenDue (lookup rows (codeOf f))))) ∷ [])
+    firstFault (frameChecks (a .phase) (frameIn f)) ≡ firstFault (rule (Length (lenDue (lookup rows (codeOf f))) (lenOf f)) (not (eqb (lenOf f) (lenDue (lookup rows (codeOf f))))) ∷ [])
 coded c = whole (c .before .before .before .before .before .before .before) ∙ passed _ _ _ _ (rw (row-is (c .before .before .before), ← c .before .phase-number .ensures) (c .if3 .left))
 
 returns : tie.Need-returns
@@ -63,7 +64,9 @@ returns-4 c =
 
 returns-5 : tie.Need-returns-5
 returns-5 c =
-    sym (coded (c .before) ∙ applies _ _ _ _ (rw (row-is (c .before .before .before .before)) (c .if4 .taken)))
+    let row = row-is (c .before .before .before .before) in
+    let f = c .before .before .before .before .before .before .before .before .before .before .before .before .before .args .frame .now in
+    sym (coded (c .before) ∙ applies _ _ _ _ (rw row (c .if4 .taken)) ∙ ap (λ (k : CodeRow). Length (lenDue k) (lenOf f)) row)
 
 returns-6 : tie.Need-returns-6
 returns-6 c =

@@ -17,7 +17,7 @@ use Rattle.frame_judge.proofs.judge_data.Tie as tie
 
 -- the frame has the end byte that is due, and its SUM holds: LEN decides
 whole : (c : tie.Else2) → let a = c .before .before .before .before .before .args in
-    dataFault (a .last) (frameIn (a .frame .now)) ≡ firstFault (rule Length (not (eqb (lenOf (a .frame .now)) 0x00)) ∷ [])
+    dataFault (a .last) (frameIn (a .frame .now)) ≡ firstFault (rule (Length 0x00 (lenOf (a .frame .now))) (not (eqb (lenOf (a .frame .now)) 0x00)) ∷ [])
 unfolding dataFault
 whole c =
     let a = c .before .before .before .before .before .args in

@@ -2,7 +2,7 @@
 use mathlib.Core.Path.{_≡_, ap, _∙_}
 use native.Mathlib.Omega.{arith}
 use Rattle.rules.specs.declared.Task.the-variants.{Verifying}
-use Rattle.rules.specs.Frame.{statusByte, dataFault}
+use Rattle.rules.specs.Frame.{statusByte, noteOf, dataFault}
 use Rattle.rules.specs.StandIn.{lastPage, onCompare}
 use Rattle.chip_finder.specs.LentFlashes.{memory}
 use Rattle.frame_build.specs.Buffer.{frameIn}
@@ -20,11 +20,12 @@ judged c = c .status-byte .ensures ∙ ap statusByte (c .before .judge-data .ens
 returns : tie.Need-returns
 returns c =
     let e = c .before .before .paired .ensures in
-    let t = c .before .before .before .before in
+    let t = c .before .before .before .before .before in
+    let n = c .before .before .before .before .note-of .ensures in
     let l = t .before in
     let a = l .before .before .before .before .before .before .args in
     let m = memory (a .code .now) (a .«data» .now) in
-    let o = compare-refused (a .p) (idle (a .c) m) (a .frame .now) (l .status-byte .result) (judged l) (t .if1 .taken) in
+    let o = compare-refused (a .p) (idle (a .c) m) (a .frame .now) (l .status-byte .result) (judged l) _ (n ∙ ap noteOf (l .before .judge-data .ensures)) (t .if1 .taken) in
     (answers (a .reply .now) o (e .0 m), e .1)
 
 -- the page is compared
@@ -71,6 +72,7 @@ pub compare-spec : {M : Type 1} → statement M
 compare-spec =
     tie.close
     (tie.spec
+    (λ c κs. search needs)
     (λ c κs. search needs)
     (λ c κs. search needs)
     (λ c κs. search needs)

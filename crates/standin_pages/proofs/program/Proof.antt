@@ -2,7 +2,7 @@
 use mathlib.Core.Path.{_≡_, ap, _∙_}
 use native.Mathlib.Omega.{arith}
 use Rattle.rules.specs.declared.Task.the-variants.{Programming}
-use Rattle.rules.specs.Frame.{statusByte, dataFault}
+use Rattle.rules.specs.Frame.{statusByte, noteOf, dataFault}
 use Rattle.rules.specs.StandIn.{lastPage, onPage}
 use Rattle.chip_finder.specs.LentFlashes.{memory}
 use Rattle.frame_build.specs.Buffer.{frameIn}
@@ -20,21 +20,23 @@ judged c = c .status-byte .ensures ∙ ap statusByte (c .before .judge-data .ens
 returns : tie.Need-returns
 returns c =
     let e = c .before .before .paired .ensures in
-    let t = c .before .before .before .before in
+    let t = c .before .before .before .before .before in
+    let n = c .before .before .before .before .note-of .ensures in
     let l = t .before in
     let a = l .before .before .before .before .before .before .args in
     let m = memory (a .code .now) (a .«data» .now) in
-    let o = page-refused (a .p) (idle (a .c) m) (a .frame .now) (l .status-byte .result) (judged l) (t .if1 .taken) in
+    let o = page-refused (a .p) (idle (a .c) m) (a .frame .now) (l .status-byte .result) (judged l) _ (n ∙ ap noteOf (l .before .judge-data .ensures)) (t .if1 .taken) in
     (answers (a .reply .now) o (e .0 m), e .1)
 
 returns-2 : tie.Need-returns-2
 returns-2 c =
     let e = c .before .before .paired2 .ensures in
-    let t = c .before .before .before .before in
+    let t = c .before .before .before .before .before in
+    let n = c .before .before .before .before .note-of2 .ensures in
     let l = t .before .before in
     let a = l .before .before .before .before .before .before .args in
     let m = memory (a .code .now) (a .«data» .now) in
-    let o = page-stopped (a .p) (idle (a .c) m) (a .frame .now) (l .status-byte .result) (judged l) (t .before .if1 .left) (t .if2 .taken) in
+    let o = page-stopped (a .p) (idle (a .c) m) (a .frame .now) (l .status-byte .result) (judged l) _ (n ∙ ap noteOf (l .before .judge-data .ensures)) (t .before .if1 .left) (t .if2 .taken) in
     (answers (a .reply .now) o (e .0 m), e .1)
 
 -- the page is written or left
@@ -86,8 +88,10 @@ program-spec =
     (λ c κs. search needs)
     (λ c κs. search needs)
     (λ c κs. search needs)
+    (λ c κs. search needs)
     (λ c. search needs)
     returns
+    (λ c κs. search needs)
     (λ c κs. search needs)
     (λ c. search needs)
     returns-2

@@ -22,9 +22,11 @@ returns c =
     c .bits-fault .ensures ∙ sym (passed _ _ _ _ (ap not all))
 
 -- the note of the other arm is not empty
-other : _≡_ {A = ℕ} 0 1 ⊎ _≡_ {A = ℕ} 0 2 → ⊥
+other : _≡_ {A = ℕ} 0 1 ⊎ _≡_ {A = ℕ} 0 2 ⊎ _≡_ {A = ℕ} 0 3 ⊎ _≡_ {A = ℕ} 0 4 → ⊥
 other (inl e) = omega arith
-other (inr e) = omega arith
+other (inr (inl e)) = omega arith
+other (inr (inr (inl e))) = omega arith
+other (inr (inr (inr e))) = omega arith
 
 returns-2 : tie.Need-returns-2
 unfolding blankRows

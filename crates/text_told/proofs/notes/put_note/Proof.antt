@@ -23,6 +23,21 @@ slice-aggregate-put-bytes c = search needs
 put-bytes-requires : tie.Need-put-bytes-requires
 put-bytes-requires c κs = search needs
 
+enum-told-3 : tie.Need-enum-told-3
+enum-told-3 c = search needs
+
+slice-aggregate-put-bytes-2 : tie.Need-slice-aggregate-put-bytes-2
+slice-aggregate-put-bytes-2 c = search needs
+
+put-bytes-requires-2 : tie.Need-put-bytes-requires-2
+put-bytes-requires-2 c κs = search needs
+
+enum-known-note-2 : tie.Need-enum-known-note-2
+enum-known-note-2 c = search needs
+
+put-length-requires : tie.Need-put-length-requires
+put-length-requires c κs = search needs
+
 returns : tie.Need-returns
 unfolding noteLine add
 returns c =
@@ -44,6 +59,22 @@ unfolding noteLine add
 returns-3 c =
     rw (c .before .before .before .before .before .enum-told2 .given .1) (c .before .before .put-bytes .ensures)
 
+same-length-3 : tie.Need-same-length-3
+same-length-3 c = search needs
+
+returns-4 : tie.Need-returns-4
+unfolding noteLine add
+returns-4 c =
+    rw (c .before .before .before .before .before .enum-told3 .given .1) (c .before .before .put-bytes2 .ensures)
+
+same-length-4 : tie.Need-same-length-4
+same-length-4 c = search needs
+
+returns-5 : tie.Need-returns-5
+unfolding noteLine add
+returns-5 c =
+    rw (c .before .before .before .before .before .note2 .given .1) (c .before .before .put-length .ensures)
+
 pub put-note-spec : {M : Type 1} → statement M
 put-note-spec =
     tie.close
@@ -54,8 +85,17 @@ put-note-spec =
     enum-told-2
     slice-aggregate-put-bytes
     put-bytes-requires
+    enum-told-3
+    slice-aggregate-put-bytes-2
+    put-bytes-requires-2
+    enum-known-note-2
+    put-length-requires
     returns
     same-length
     returns-2
     same-length-2
-    returns-3)
+    returns-3
+    same-length-3
+    returns-4
+    same-length-4
+    returns-5)

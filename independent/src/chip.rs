@@ -88,7 +88,7 @@ impl Model {
     }
 
     /// The flash that holds an address, and the address's place in it.
-    fn holding(self, address: u32) -> Option<(Area, usize)> {
+    pub fn holding(self, address: u32) -> Option<(Area, usize)> {
         Area::BOTH.into_iter().find_map(|area| Some((area, self.offset_in(area, address)?)))
     }
 

@@ -2,6 +2,7 @@
 
 mod blanks;
 mod counts;
+mod hexes;
 pub mod material;
 mod plays;
 pub mod random;
@@ -9,10 +10,15 @@ mod releases;
 mod scripts;
 mod sheets;
 
+use std::fs;
+use std::io;
+use std::path::Path;
+
 use crate::answers::Answers;
 use crate::joined::bring_up_bytes;
 use crate::lines::{LineRunner, MOST_INPUT, byte_line};
 use crate::standin::Phase;
+use random::Random;
 
 #[derive(Clone, Copy, Debug, PartialEq, Eq)]
 pub enum Subject {
@@ -33,6 +39,37 @@ impl Subject {
             _ => None,
         }
     }
+}
+
+/// A subject whose cases are files.
+#[derive(Clone, Copy, Debug, PartialEq, Eq)]
+pub enum FileSubject {
+    /// Intel HEX.
+    Hex,
+}
+
+impl FileSubject {
+    pub fn from_name(name: &str) -> Option<FileSubject> {
+        match name {
+            "hex" => Some(FileSubject::Hex),
+            _ => None,
+        }
+    }
+}
+
+/// Writes `count` cases into a directory, as 0001.hex and so on.
+pub fn generate_files(subject: FileSubject, seed: u64, count: u64, dir: &Path) -> io::Result<()> {
+    fs::create_dir_all(dir)?;
+    for case in 0..count {
+        let random = Random::for_case(seed, case);
+        let number = case + 1;
+        match subject {
+            FileSubject::Hex => {
+                fs::write(dir.join(format!("{number:04}.hex")), hexes::file(random))?
+            }
+        }
+    }
+    Ok(())
 }
 
 /// The text of `count` cases.

@@ -7,23 +7,27 @@ mod check;
 mod chip;
 mod frames;
 mod generator;
+mod hex;
 mod joined;
 mod lines;
 mod meaning;
 mod note;
 mod options;
 mod player;
+mod results;
 mod sheet;
 mod standin;
 mod status;
 
 use std::io::{self, Read, Write};
+use std::path::Path;
 use std::process::ExitCode;
 
 use answers::Answers;
 use calls::Calls;
 use chip::Model;
-use generator::Subject;
+use generator::{FileSubject, Subject};
+use hex::MOST_TEXT;
 use joined::Played;
 use lines::{MOST_INPUT, run_lines};
 use player::Refusal;
@@ -34,9 +38,15 @@ const USAGE: &str = "\
 usage: sheetplay answers
        sheetplay frames
        sheetplay play
+       sheetplay hex
        sheetplay meaning-check SEED COUNT
        sheetplay generate scripts|plays|sheets SEED COUNT
+       sheetplay generate-files hex SEED COUNT DIR
+       sheetplay hex-results DIR
 ";
+
+/// Nothing was done: wrong usage, or input that is too long.
+const COULD_NOT_RUN: u8 = 2;
 
 fn main() -> ExitCode {
     let arguments: Vec<String> = std::env::args().skip(1).collect();
@@ -45,7 +55,7 @@ fn main() -> ExitCode {
         Ok(Some(code)) => code,
         Ok(None) => {
             eprint!("{USAGE}");
-            ExitCode::from(2)
+            ExitCode::from(COULD_NOT_RUN)
         }
         Err(error) => {
             eprintln!("sheetplay: {error}");
@@ -56,22 +66,16 @@ fn main() -> ExitCode {
 
 /// None if the words name no program.
 fn run(words: &[&str]) -> io::Result<Option<ExitCode>> {
-    let mut code = ExitCode::SUCCESS;
-    let text = match words {
-        ["answers"] => run_lines(&read_input(MOST_INPUT)?, &mut Answers::new()),
-        ["frames"] => run_lines(&read_input(MOST_INPUT)?, &mut Calls::new()),
-        ["play"] => play(&read_input(MOST_BYTES)?),
+    let code = match words {
+        ["answers"] => tell(run_lines(&read_input(MOST_INPUT)?, &mut Answers::new()))?,
+        ["frames"] => tell(run_lines(&read_input(MOST_INPUT)?, &mut Calls::new()))?,
+        ["play"] => tell(play(&read_input(MOST_BYTES)?))?,
+        ["hex"] => hex(&read_input(MOST_TEXT)?)?,
         ["meaning-check", seed, count] => {
             let (Ok(seed), Ok(count)) = (seed.parse(), count.parse()) else {
                 return Ok(None);
             };
-            match check::check(seed, count) {
-                Ok(()) => format!("ok {count}\n"),
-                Err(difference) => {
-                    code = ExitCode::FAILURE;
-                    format!("{difference}\n")
-                }
-            }
+            check_meaning(seed, count)?
         }
         ["generate", subject, seed, count] => {
             let (Some(subject), Ok(seed), Ok(count)) =
@@ -79,12 +83,52 @@ fn run(words: &[&str]) -> io::Result<Option<ExitCode>> {
             else {
                 return Ok(None);
             };
-            generator::generate(subject, seed, count)
+            tell(generator::generate(subject, seed, count))?
         }
+        ["generate-files", subject, seed, count, dir] => {
+            let (Some(subject), Ok(seed), Ok(count)) =
+                (FileSubject::from_name(subject), seed.parse(), count.parse())
+            else {
+                return Ok(None);
+            };
+            generator::generate_files(subject, seed, count, Path::new(dir))?;
+            ExitCode::SUCCESS
+        }
+        ["hex-results", dir] => tell(results::of_hex(Path::new(dir))?)?,
         _ => return Ok(None),
     };
-    io::stdout().write_all(text.as_bytes())?;
     Ok(Some(code))
+}
+
+/// Writes to standard output.
+fn tell(text: impl AsRef<[u8]>) -> io::Result<ExitCode> {
+    io::stdout().write_all(text.as_ref())?;
+    Ok(ExitCode::SUCCESS)
+}
+
+fn check_meaning(seed: u64, count: u64) -> io::Result<ExitCode> {
+    match check::check(seed, count) {
+        Ok(()) => tell(format!("ok {count}\n")),
+        Err(difference) => {
+            tell(format!("{difference}\n"))?;
+            Ok(ExitCode::FAILURE)
+        }
+    }
+}
+
+/// The `hex` program: a sheet, or one line on standard error.
+fn hex(text: &[u8]) -> io::Result<ExitCode> {
+    if text.len() > MOST_TEXT {
+        eprintln!("{}", hex::TOO_LONG);
+        return Ok(ExitCode::from(COULD_NOT_RUN));
+    }
+    match hex::sheet_of(text) {
+        Ok(sheet) => tell(sheet),
+        Err(refusal) => {
+            eprintln!("{refusal}");
+            Ok(ExitCode::FAILURE)
+        }
+    }
 }
 
 /// Standard input, cut one byte past `most`, so that what is too long shows.

@@ -1,6 +1,7 @@
 //! The job sheet: read and judged.
 
 use crate::chip::{Model, Span};
+use crate::frames::address_bytes;
 
 /// The most steps of a sheet.
 pub const MOST_STEPS: usize = 64;
@@ -91,6 +92,26 @@ impl<'a> Sheet<'a> {
             return Err(Jn(9));
         }
         Ok(Sheet { steps })
+    }
+}
+
+impl Sheet<'_> {
+    /// The sheet written down.
+    pub fn bytes(&self) -> Vec<u8> {
+        let mut bytes = (self.steps.len() as u16).to_le_bytes().to_vec();
+        let mut offset = COUNT_LENGTH + ENTRY_LENGTH * self.steps.len();
+        for step in &self.steps {
+            bytes.push(step.kind.number());
+            bytes.extend(address_bytes(step.span.first_address()));
+            bytes.extend(address_bytes(step.span.last_address()));
+            bytes.push(0);
+            bytes.extend((offset as u32).to_le_bytes());
+            offset += step.body.len();
+        }
+        for step in &self.steps {
+            bytes.extend(step.body);
+        }
+        bytes
     }
 }
 

@@ -2,7 +2,7 @@
 
 mod common;
 
-use common::{BRING_UP, answers, in_command, run};
+use common::{BRING_UP, Ended, answers, ended, in_command, run};
 
 /// What a script for a large chip in phase Command writes, without the lines
 /// that bring it there.
@@ -313,5 +313,233 @@ mod m101_say_why_a_frame_was_bad {
         assert_eq!(dirty[2..], ["< 02 02 15 1C CD 03", "note end"]);
         let dirty = in_command("data F1005 00\n", &format!("{begin}{page} 17\n{page} 03\n"));
         assert_eq!(dirty[2..], ["< 02 02 06 1C DC 03"]);
+    }
+}
+
+mod m103_intel_hex_in {
+    use super::*;
+
+    const END: &str = ":00000001FF\n";
+    /// Upper address 000Fh: data flash is offset 1000h to 17FFh.
+    const UPPER: &str = ":02000004000FEB\n";
+
+    fn hex(text: &str) -> Ended {
+        ended(&["hex"], text.as_bytes())
+    }
+
+    fn refusal(text: &str) -> String {
+        let Ended { output, errors, status } = hex(text);
+        assert_eq!((output.len(), status), (0, Some(1)), "{text}");
+        assert!(errors.starts_with("hex: ") && errors.ends_with('\n'), "{errors}");
+        String::from(errors["hex: ".len()..].trim_end())
+    }
+
+    fn sheet(text: &str) -> Vec<u8> {
+        let Ended { output, errors, status } = hex(text);
+        assert_eq!((errors.as_str(), status), ("", Some(0)), "{text}");
+        output
+    }
+
+    /// A record with its sum.
+    fn record(offset: u16, kind: u8, data: &[u8]) -> String {
+        let mut bytes = vec![data.len() as u8, (offset >> 8) as u8, offset as u8, kind];
+        bytes.extend(data);
+        bytes.push(bytes.iter().fold(0u8, |total, &byte| total.wrapping_sub(byte)));
+        let digits: String = bytes.iter().map(|byte| format!("{byte:02X}")).collect();
+        format!(":{digits}\n")
+    }
+
+    /// The sheet due: erase, write and verify of each block.
+    fn due(blocks: &[(u32, Vec<u8>)]) -> Vec<u8> {
+        let count = 3 * blocks.len();
+        let mut sheet = (count as u16).to_le_bytes().to_vec();
+        let mut offset = 2 + 12 * count;
+        for (first, bytes) in blocks {
+            let last = first + bytes.len() as u32 - 1;
+            for kind in 1..=3 {
+                sheet.push(kind);
+                sheet.extend(&first.to_le_bytes()[..3]);
+                sheet.extend(&last.to_le_bytes()[..3]);
+                sheet.push(0);
+                sheet.extend((offset as u32).to_le_bytes());
+                offset += if kind == 1 { 0 } else { bytes.len() };
+            }
+        }
+        for (_, bytes) in blocks {
+            sheet.extend(bytes);
+            sheet.extend(bytes);
+        }
+        sheet
+    }
+
+    #[test]
+    fn good_files() {
+        assert_eq!(sheet(END), [0, 0]);
+        let mut block = vec![0xFF; 256];
+        block[0x10] = 0xA5;
+        assert_eq!(
+            sheet(&format!("{UPPER}:01101000A53A\n{END}")),
+            due(&[(0xF1000, block.clone())])
+        );
+        // CR LF, case of digits, the address of 01 and 04 not read.
+        let other = ":02123404000fA5\r\n:01101000a53A\n:00ABCD0187\r\n";
+        assert_eq!(sheet(other), due(&[(0xF1000, block.clone())]));
+        // Rising order of blocks, whatever the order of records; an upper that
+        // comes back; the last and first bytes of both flashes.
+        let text = [
+            UPPER.to_string(),
+            record(0x17FF, 0, &[3]),
+            record(0x1000, 0, &[2]),
+            record(0x0000, 4, &[0, 0]),
+            record(0x7FFF, 0, &[1]),
+            record(0x0000, 0, &[0]),
+            END.to_string(),
+        ]
+        .concat();
+        let with = |length: usize, at: usize, byte: u8| {
+            let mut bytes = vec![0xFF; length];
+            bytes[at] = byte;
+            bytes
+        };
+        let blocks = [
+            (0x00000, with(2048, 0, 0)),
+            (0x07800, with(2048, 2047, 1)),
+            (0xF1000, with(256, 0, 2)),
+            (0xF1700, with(256, 255, 3)),
+        ];
+        assert_eq!(sheet(&text), due(&blocks));
+        // A given FFh counts as given; a record of no bytes gives none.
+        let text = format!("{}{}{END}", record(0x0800, 0, &[0xFF]), record(0x9000, 0, &[]));
+        assert_eq!(sheet(&text), due(&[(0x00800, vec![0xFF; 2048])]));
+    }
+
+    #[test]
+    fn the_sheet_plays() {
+        let text = format!("{UPPER}{}{END}", record(0x1000, 0, &[0xA5; 16]));
+        assert_eq!(
+            run(&["play"], &sheet(&text)),
+            "step kind status frames sum\n1 erase 06 1 0000\n2 write 06 2 0000\n\
+             3 verify 06 2 0000\nend 06 steps 3 frames 5 pieces 0\n"
+        );
+    }
+
+    #[test]
+    fn bad_form() {
+        for line in [
+            "\n",
+            "00000001FF\n",
+            " :00000001FF\n",
+            ":00000001FF \n",
+            ":00000001FF\r\r\n",
+            ":00000001F\n",
+            ":00000001FG\n",
+            ":0000000\n",
+            ":\n",
+            ":00000001FF00\n",
+            ":01000000FF\n",
+            // Without its end.
+            ":00000001FF",
+            ":00000001FF\r",
+            // 01 with data, 04 with one byte and with three, past FFFFh.
+            ":0100000100FE\n",
+            ":010000040FEC\n",
+            ":03000004000F00EA\n",
+            ":02FFFF000000FF\n",
+        ] {
+            assert_eq!(refusal(&format!("{UPPER}{line}")), "line 2: bad form", "{line:?}");
+        }
+        // Up to FFFFh is no bad form.
+        assert_eq!(refusal(":01FFFF000001\n"), "line 1: byte outside the flashes");
+    }
+
+    #[test]
+    fn order_in_a_line() {
+        let kind = "record type other than 00, 01, 04: write the file with 04 records";
+        // Bad form and a wrong sum; a wrong sum and another type; another type.
+        assert_eq!(refusal(":0100000100FF\n"), "line 1: bad form");
+        assert_eq!(refusal(":020000021000ED\n"), "line 1: wrong sum");
+        assert_eq!(refusal(":020000021000EC\n"), format!("line 1: {kind}"));
+        // A wrong sum and a byte outside; outside and twice in one record.
+        assert_eq!(refusal(":0180000000FF\n"), "line 1: wrong sum");
+        let twice = [record(0x7FFF, 0, &[0]), record(0x7FFF, 0, &[0, 0])].concat();
+        assert_eq!(refusal(&twice), "line 2: byte outside the flashes");
+        let twice = [record(0x7FF0, 0, &[0, 0]), record(0x7FF1, 0, &[0])].concat();
+        assert_eq!(refusal(&format!("{twice}{END}")), "line 2: byte given twice");
+    }
+
+    #[test]
+    fn outside() {
+        for (upper, offset, count) in [
+            (0x0000, 0x8000, 1),
+            (0x0000, 0x7FF8, 9),
+            (0x0001, 0x0000, 1),
+            (0x000F, 0x0FFF, 1),
+            (0x000F, 0x1800, 1),
+            (0x000F, 0x17F0, 17),
+            (0x0010, 0x0000, 1),
+            (0xFFFF, 0xFFFF, 1),
+        ] {
+            let upper = record(0, 4, &u16::to_be_bytes(upper));
+            let text = format!("{upper}{}{END}", record(offset, 0, &vec![0; count]));
+            assert_eq!(refusal(&text), "line 2: byte outside the flashes");
+        }
+    }
+
+    #[test]
+    fn after_all_lines() {
+        assert_eq!(refusal(""), "no end record");
+        assert_eq!(refusal(UPPER), "no end record");
+        assert_eq!(refusal(&format!("{END}{UPPER}")), "line 2: a line after the end record");
+        assert_eq!(refusal(&format!("{END}{END}")), "line 2: a line after the end record");
+        let data = |blocks: u16| -> String {
+            (0..blocks).map(|block| record(0x1000 + block * 0x100, 0, &[0])).collect()
+        };
+        let code = |blocks: u16| -> String {
+            (0..blocks).map(|block| record(block * 0x800, 0, &[0])).collect()
+        };
+        let text =
+            |in_code: u16, in_data: u16| format!("{}{UPPER}{}{END}", code(in_code), data(in_data));
+        assert_eq!(sheet(&text(15, 0)).len(), 61_982);
+        assert_eq!(sheet(&text(15, 6)).len(), 2 + 12 * 63 + 2 * (15 * 2_048 + 6 * 256));
+        let long = "over 65,536 bytes: at most 15 code blocks a sheet, split the image";
+        let steps = "over 64 steps: at most 21 blocks a sheet, split the image";
+        assert_eq!(refusal(&text(16, 0)), long);
+        assert_eq!(refusal(&text(16, 5)), long);
+        assert_eq!(refusal(&text(15, 7)), steps);
+        assert_eq!(refusal(&text(16, 8)), steps);
+        assert_eq!(refusal(&text(15, 7).replace(END, "")), "no end record");
+    }
+
+    #[test]
+    fn too_long_a_text() {
+        let line = ":00000000\r\n";
+        let text = line.repeat(1_048_576 / line.len() + 1);
+        let input = &text.as_bytes()[..1_048_577];
+        let found = ended(&["hex"], input);
+        assert_eq!(found.errors, "hex: input over 1,048,576 bytes\n");
+        assert_eq!((found.output.len(), found.status), (0, Some(2)));
+        assert_eq!(ended(&["hex"], &input[..1_048_576]).errors, "hex: line 1: bad form\n");
+    }
+
+    #[test]
+    fn files_and_results() {
+        let dir = std::env::temp_dir().join(format!("sheetplay-hex-{}", std::process::id()));
+        let place = dir.to_str().expect("a path of text");
+        assert_eq!(ended(&["generate-files", "hex", "103", "40", place], &[]).status, Some(0));
+        let results = run(&["hex-results", place], &[]);
+        assert_eq!(results.lines().count(), 40);
+        for (index, line) in results.lines().enumerate() {
+            let name = format!("{:04}.hex", index + 1);
+            let text = std::fs::read(dir.join(&name)).expect("the file is there");
+            let Ended { output, errors, .. } = ended(&["hex"], &text);
+            let due = if errors.is_empty() {
+                let bytes: String = output.iter().map(|byte| format!(" {byte:02X}")).collect();
+                format!("{name} sheet {}{bytes}", output.len())
+            } else {
+                format!("{name} {}", errors.trim_end())
+            };
+            assert_eq!(line, due);
+        }
+        std::fs::remove_dir_all(dir).expect("the files are removed");
     }
 }

@@ -163,18 +163,18 @@ module _ (chip : Chip) (s : State) (ph : Phase) (fresh : Fresh s ph) (idle : tas
         hears-judged ∙ ap (λ (j : Judged). quiet (onJudged j chip begun)) (sym (stopped v _ (sym e) (Ordered order) n))
 
 -- three bytes hold an address of less than 2^24
-address-back : (a : Address) → a .0 < 16777216
+pub address-back : (a : Address) → a .0 < 16777216
     → record { 0 = a .0 % 256 + 256 * (a .0 / 256 % 256) + 65536 * (a .0 / 65536 % 256) } ≡ a
 address-back a h =
     let e : a .0 % 256 + 256 * (a .0 / 256 % 256) + 65536 * (a .0 / 65536 % 256) ≡ a .0 = omega arith in
     ap (λ (n : ℕ). record { 0 = n }) e
 
 module _ (chip : Chip) (sized : Sized chip) (b : Block) where
-  first-held : (f : Flash) → b .0 < blocks chip f → firstByte f b .0 < 16777216
+  pub first-held : (f : Flash) → b .0 < blocks chip f → firstByte f b .0 < 16777216
   first-held Code h = omega (arith, sized .few Code)
   first-held Data h = omega (arith, sized .few Data)
 
-  last-held : (f : Flash) → b .0 < blocks chip f → lastByte f b .0 < 16777216
+  pub last-held : (f : Flash) → b .0 < blocks chip f → lastByte f b .0 < 16777216
   last-held Code h = omega (arith, sized .few Code)
   last-held Data h = omega (arith, sized .few Data)
 

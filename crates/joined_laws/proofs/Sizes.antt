@@ -31,7 +31,7 @@ use Rattle.joined_laws.specs.Turns.{Sized, Fit}
 
 module _ (chip : Chip) (m : Memory) (fit : Fit chip m) where
   -- part i of so many, all of one size
-  fit-put : (f : Flash) (size count i : ℕ) (new : List ℕ) → flashSize chip f ≡ count * size → i < count → length new ≡ size
+  pub fit-put : (f : Flash) (size count i : ℕ) (new : List ℕ) → flashSize chip f ≡ count * size → i < count → length new ≡ size
       → Fit chip (withFlash m f (putPart size i new (flashOf m f)))
   fit-put f size count i new e h l =
       let kept = length-put size i (flashOf m f) (inside size count i (fit f ∙ e) h) new l in

@@ -1,15 +1,22 @@
 // The program: a sheet from standard input, played to a fresh chip, and the text of the play on standard output. What stands in the buffer that is
 // written is promised by `play_fresh` for every input.
-mod input;
-
-use input::Input;
+use text_input::Input;
 use text_play::fresh::play_fresh;
 use text_read::part;
+ghost use mathlib.Core.Path.{_≡_};
+ghost use lib.ListN.{length};
+
+// Room for the longest sheet, and for one byte more, by which a longer input is seen as such.
+fn room() -> [u8; 65537]
+    ensures { λ r. ⌜ 65537 ≡ length r ⌝ }
+{
+    [0; 65537]
+}
 
 fn main() {
-    let mut sheet = input::room();
+    let mut sheet = room();
     let mut text = [0u8; text_told::ROOM];
-    match input::read(&mut sheet) {
+    match text_input::read(&mut sheet) {
         Input::Read(n) => {
             let size = play_fresh(part::between(&sheet, 0, n), &mut text);
             io::write_all(1, part::between(&text, 0, size));

@@ -2,9 +2,9 @@
 use mathlib.Core.Path.{_≡_, refl, sym}
 use mathlib.Core.Bool.{Bool, true, false, cond, _&&_, false≢true}
 use mathlib.Core.List.{List, [], _∷_}
-use Prim.Native.Nat.{ℕ}
+use Prim.Native.Nat.{ℕ, _-_}
 use lib.Dec.{eqb}
-use lib.ListN.{replicate}
+use lib.ListN.{length, take, drop, replicate}
 use borrow.Author.Tests.{eqb-true, eq-eqb}
 use Rattle.rules.specs.declared.Chip.{Chip}
 use Rattle.rules.specs.declared.Options.{Options}
@@ -24,6 +24,8 @@ use Rattle.rules.specs.Numbers.{noteNumbers, callNumber, verdictNumber, 
 use Rattle.rules.specs.Player.{called}
 use Rattle.rules.specs.Run.{Joined, Ran, clean, joinedAtStart, run, waits}
 use Rattle.rules.specs.Rows.{sameNumber, sameOptions, sameMemory, alike, Exchange, Session, gives, comesLast, stateAfter, exchanged, holds, allHold, Play, reports, noSums, noFrames, meant, ranTo, opened, plays, allPlay, Lending, lentMemory, lends, allLend, Calling, calls, allCall}
+use Rattle.rules.specs.Hex.{madeNumber, madeLine}
+use Rattle.rules.specs.HexTexts.{HexText, lentOut, makingIn, writtenIn, makes, allMake}
 use Rattle.rules.proofs.Bytes.{same-equal}
 use Rattle.rules.proofs.Choices.{both}
 
@@ -287,3 +289,34 @@ pub all-answer : (ts : List Calling) → allCall ts ≡ true → All Answers ts
 unfolding allCall
 all-answer [] e = tt
 all-answer (t ∷ ts) e = let p = both (calls t) (allCall ts) e in (answers t (p .0), all-answer ts (p .1))
+
+-- ---- a HEX text ----
+
+pub record Makes (t : HexText) : Type 0 where
+  pub due : madeNumber (makingIn t .made) ≡ t .due
+  pub line : madeLine (makingIn t .made) ≡ t .line
+  pub front : take (length (t .front)) (makingIn t .out) ≡ t .front
+  pub stands : drop (writtenIn t) (makingIn t .out) ≡ lentOut (t .room - writtenIn t)
+
+making : (t : HexText) → makes t ≡ true → Makes t
+unfolding makes
+making t h =
+    let r = makingIn t in
+    let d = sameNumber (madeNumber (r .made)) (t .due) in
+    let l = eqb (madeLine (r .made)) (t .line) in
+    let f = same (take (length (t .front)) (r .out)) (t .front) in
+    let s = same (drop (writtenIn t) (r .out)) (lentOut (t .room - writtenIn t)) in
+    let c = both (d && l && f) s h in
+    let b = both (d && l) f (c .0) in
+    let a = both d l (b .0) in
+    record {
+      due = number-equal (madeNumber (r .made)) (t .due) (a .0);
+      line = eqb-true (madeLine (r .made)) (t .line) (a .1);
+      front = same-equal (take (length (t .front)) (r .out)) (t .front) (b .1);
+      stands = same-equal (drop (writtenIn t) (r .out)) (lentOut (t .room - writtenIn t)) (c .1);
+    }
+
+pub all-made : (ts : List HexText) → allMake ts ≡ true → All Makes ts
+unfolding allMake
+all-made [] e = tt
+all-made (t ∷ ts) e = let p = both (makes t) (allMake ts) e in (making t (p .0), all-made ts (p .1))

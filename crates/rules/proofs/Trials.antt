@@ -5,10 +5,11 @@ use Rattle.rules.specs.Compute.{everything}
 use Rattle.rules.specs.Rows.{comesLast, stateAfter, exchanged, holds, allHold, plays, allPlay, lends, allLend, calls, allCall}
 use Rattle.rules.specs.Starred.{starred}
 use Rattle.rules.specs.Trials.{further, sheets, lengths, playerCalls}
-use Rattle.rules.proofs.Rows.{All, Held, all-held, Played, all-played, Lent, all-lent, Answers, all-answer}
+use Rattle.rules.proofs.Rows.{All, Held, all-held, Played, all-played, Lent, all-lent, Answers, all-answer, Makes, all-made}
 use Rattle.rules.specs.Texts.{allPrint, printed, texts}
 use Rattle.rules.specs.Blank.{blankChecks}
 use Rattle.rules.specs.BadFrames.{badFrames}
+use Rattle.rules.specs.HexTexts.{makes, allMake, pairsOf, recordOf, oneEach, hexTexts, hexBlocks}
 use Rattle.rules.specs.Chips.{chipLengths, chipSessions, chipSheets}
 
 -- THE STARRED TRIALS, 1 to 12
@@ -63,6 +64,15 @@ pub bad-frames : allHold badFrames ≡ true
 unfolding everything comesLast stateAfter exchanged holds allHold badFrames
 bad-frames = refl
 
+-- M-103: HEX texts and what comes of them
+pub hex-trials : allMake hexTexts ≡ true
+unfolding everything makes allMake pairsOf recordOf oneEach hexTexts
+hex-trials = refl
+
+pub hex-block-trials : allMake hexBlocks ≡ true
+unfolding everything makes allMake pairsOf recordOf oneEach hexBlocks
+hex-block-trials = refl
+
 -- ---- what the rows say ----
 
 pub starred-say : All Held starred
@@ -94,3 +104,9 @@ blank-checks-say = all-held blankChecks blank-checks
 
 pub bad-frames-say : All Held badFrames
 bad-frames-say = all-held badFrames bad-frames
+
+pub hex-say : All Makes hexTexts
+hex-say = all-made hexTexts hex-trials
+
+pub hex-blocks-say : All Makes hexBlocks
+hex-blocks-say = all-made hexBlocks hex-block-trials

@@ -12,6 +12,7 @@ pub mod Numbers
 pub mod Run
 pub mod Text
 pub mod Lines
+pub mod Hex
 pub mod Compute
 pub mod Rows
 pub mod Starred
@@ -20,3 +21,4 @@ pub mod Texts
 pub mod Chips
 pub mod Blank
 pub mod BadFrames
+pub mod HexTexts

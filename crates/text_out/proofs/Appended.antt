@@ -40,7 +40,7 @@ drop-one xs i h = rw add-one (drop-cons xs i 0 h)
 -- ---- a buffer filled from its first byte on ----
 
 -- with room, a store for each byte
-stores : (t : List ℕ) (at : ℕ) (b : List ℕ) → at + length t ≤ length b → add t (out at b) ≡ out (at + length t) (sets b at t)
+pub stores : (t : List ℕ) (at : ℕ) (b : List ℕ) → at + length t ≤ length b → add t (out at b) ≡ out (at + length t) (sets b at t)
 unfolding add addByte
 stores [] at b h = ap (λ (n : ℕ). out n b) (omega arith)
 stores (x ∷ t) at b h =

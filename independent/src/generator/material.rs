@@ -330,20 +330,7 @@ impl Plan {
     }
 
     pub fn bytes(&self) -> Vec<u8> {
-        let mut bytes = (self.steps.len() as u16).to_le_bytes().to_vec();
-        let mut offset = COUNT_LENGTH + ENTRY_LENGTH * self.steps.len();
-        for step in &self.steps {
-            bytes.push(step.kind.number());
-            bytes.extend(address_bytes(step.span.first_address()));
-            bytes.extend(address_bytes(step.span.last_address()));
-            bytes.push(0);
-            bytes.extend((offset as u32).to_le_bytes());
-            offset += step.body.len();
-        }
-        for step in &self.steps {
-            bytes.extend(&step.body);
-        }
-        bytes
+        Sheet { steps: self.steps.iter().map(PlannedStep::as_step).collect() }.bytes()
     }
 
     /// The plan's bytes with one or more faults in them.

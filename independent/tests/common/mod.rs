@@ -6,10 +6,23 @@ use std::process::{Command, Stdio};
 
 /// What the program writes to standard output.
 pub fn run(words: &[&str], input: &[u8]) -> String {
+    String::from_utf8(ended(words, input).output).expect("the output is text")
+}
+
+/// How a run of the program ended.
+#[derive(Debug, PartialEq, Eq)]
+pub struct Ended {
+    pub output: Vec<u8>,
+    pub errors: String,
+    pub status: Option<i32>,
+}
+
+pub fn ended(words: &[&str], input: &[u8]) -> Ended {
     let mut child = Command::new(env!("CARGO_BIN_EXE_sheetplay"))
         .args(words)
         .stdin(Stdio::piped())
         .stdout(Stdio::piped())
+        .stderr(Stdio::piped())
         .spawn()
         .expect("the program starts");
     let mut stdin = child.stdin.take().expect("standard input is piped");
@@ -20,7 +33,11 @@ pub fn run(words: &[&str], input: &[u8]) -> String {
     });
     let output = child.wait_with_output().expect("the program ends");
     writer.join().expect("the input is written");
-    String::from_utf8(output.stdout).expect("the output is text")
+    Ended {
+        output: output.stdout,
+        errors: String::from_utf8(output.stderr).expect("errors are text"),
+        status: output.status.code(),
+    }
 }
 
 pub fn answers(script: &str) -> String {

@@ -1,0 +1,4 @@
+pub mod Records
+pub mod Given
+pub mod TakenLines
+pub mod Outside

@@ -1,0 +1,3 @@
+pub mod NamedBlocks
+pub mod Refusals
+pub mod Outcomes

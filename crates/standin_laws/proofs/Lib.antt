@@ -1,1 +1,4 @@
 pub mod Notes
+pub mod EarlyBytes
+pub mod BeforeIdent
+pub mod Values

@@ -1,1 +1,3 @@
 pub mod Notes
+pub mod BeforeIdent
+pub mod Values

@@ -31,7 +31,7 @@ typedef size engine_fn(const u8 *, size, size, size, u8 *, u8 *, size, u8 *, siz
 typedef size player_fn(const u8 *, size, const u8 *, size, size, size, size, u8 *, size, u16 *, size);
 typedef size play_fn(const u8 *, size, u8 *, u8 *, size, u8 *, size, u8 *, size, u8 *, size, u16 *, size, size *);
 
-engine_fn rattle_engine, rattle_called, rattle_by_value, plain_engine, plain_called;
+engine_fn rattle_engine, rattle_called, rattle_by_value, rattle_frames, plain_engine, plain_called, plain_frames;
 player_fn rattle_player, plain_player;
 play_fn rattle_play, plain_play;
 
@@ -89,7 +89,8 @@ __attribute__((noinline)) static void call_play(struct lent *m, struct run r)
                              sizeof m->reply - (r.less == 3), m->frame, sizeof m->frame - (r.less == 4), m->sums, 64, m->each);
 }
 
-enum kind { ENGINE, CALLED, BY_VALUE, PLAYER, PLAY_ALL };
+// FRAMES is handed whole frames on both sides; AS_BYTES has our own engine, byte by byte, for its plain side.
+enum kind { ENGINE, CALLED, BY_VALUE, PLAYER, PLAY_ALL, FRAMES, AS_BYTES };
 
 static void choose(enum kind kind, int proved)
 {
@@ -99,6 +100,10 @@ static void choose(enum kind kind, int proved)
         engine_called = proved ? rattle_called : plain_called;
     if (kind == BY_VALUE)
         engine_called = proved ? rattle_by_value : plain_engine;
+    if (kind == FRAMES)
+        engine_called = proved ? rattle_frames : plain_frames;
+    if (kind == AS_BYTES)
+        engine_called = proved ? rattle_frames : rattle_engine;
     if (kind == PLAYER)
         player_called = proved ? rattle_player : plain_player;
 #ifdef PLAY
@@ -416,6 +421,12 @@ static const struct row rows[] = {
     {"kept a call: Checksum of a data block", CALLED, in_checksum, 0},
     {"by value: Programming", BY_VALUE, in_data_frames, 0},
     {"by value: Reset", BY_VALUE, in_reset, 0},
+    {"whole frames: Programming", FRAMES, in_data_frames, 0},
+    {"whole frames: Verify", FRAMES, in_verify, 0},
+    {"whole frames: Reset", FRAMES, in_reset, 0},
+    {"whole frames by our bytes: Programming", AS_BYTES, in_data_frames, 0},
+    {"whole frames by our bytes: Verify", AS_BYTES, in_verify, 0},
+    {"whole frames by our bytes: Reset", AS_BYTES, in_reset, 0},
     {"command frame, 1 step, 2048 bytes", PLAYER, sheet_small_1, 1},
     {"command frame, 1 step, 32768 bytes", PLAYER, sheet_large_1, 1},
     {"command frame, 8 steps, 16384 bytes", PLAYER, sheet_small_8, 1},
@@ -457,7 +468,7 @@ static void heading(const char *unit)
 
 static void line(const struct row *row, struct run r, double proved, double base)
 {
-    static const char *const unit[] = {"byte", "byte", "byte", "call", "play"};
+    static const char *const unit[] = {"byte", "byte", "byte", "call", "play", "byte", "byte"};
     double n = units(row, r);
     printf("%-42s %-5s %12.2f %12.2f %7.2f\n", row->name, unit[row->kind], proved / n, base / n, proved / base);
 }
@@ -567,7 +578,7 @@ __attribute__((noinline)) static size depth(void)
 
 static void stack(void)
 {
-    static const char *const entry[] = {"engine", "engine, kept a call", "call by value", "player call", "whole play"};
+    static const char *const entry[] = {"engine", "engine, kept a call", "call by value", "player call", "whole play", "whole frames", "whole frames by our bytes"};
     printf("%-42s %12s %12s\n", "stack, bytes", "proved", "plain");
     for (int i = 0; i < ROWS; i++) {
         size used[2];
@@ -797,6 +808,7 @@ static void compare(void)
             both("a random session, kept a call", CALLED, r);
             both("a random session, by value", BY_VALUE, r);
         }
+        both("a random session, by whole frames", FRAMES, r);
     }
     for (int k = 0; k < 4000; k++) {
         struct run r = {0, 0, any(60), 1 + any(30), one_in(50) ? any(5) : 0};

@@ -39,12 +39,14 @@ static size mixed(size sum, size number)
     return sum % 0x10000000000 * 31 + number % 65536;
 }
 
-// A refusal by its letter and number: 1 to 10 is J1 to J10, 11 and 12 are P1 and P2, 13 to 15 are D1 to D3.
+// A refusal by its letter and number: 1 to 10 is J1 to J10, 11 and 12 are P1 and P2, 13 to 15 are D1 to D3, 16 is E1.
 static size named(size refusal)
 {
     if (refusal <= 10)
         return 'J' * 256 + refusal;
-    return refusal <= 12 ? 'P' * 256 + refusal - 10 : 'D' * 256 + refusal - 12;
+    if (refusal <= 12)
+        return 'P' * 256 + refusal - 10;
+    return refusal <= 15 ? 'D' * 256 + refusal - 12 : 'E' * 256 + refusal - 15;
 }
 
 #ifndef PLAY
@@ -111,7 +113,7 @@ static int range_of(u32 sad, u32 ead, struct range *r)
     return r->from % block == 0 && r->to % block == 0;
 }
 
-#if defined(ENGINE) || defined(PLAY)
+#if defined(ENGINE) || defined(FRAMES) || defined(PLAY)
 
 // ---- the device
 
@@ -416,6 +418,7 @@ static int on_data(struct device *d, const u8 *frame, struct lent m, u8 *reply)
     return put_pair(reply, 0x06, 0x06);
 }
 
+#ifndef FRAMES
 // One received byte: how many bytes are answered, or -1 to -3 for D1 to D3.
 BYTE_CALL int take(struct device *d, u8 byte, u8 *frame, u8 *code, size code_n, u8 *data, size data_n, u8 *reply, size reply_n)
 {
@@ -449,6 +452,28 @@ BYTE_CALL int take(struct device *d, u8 byte, u8 *frame, u8 *code, size code_n, 
         return on_command(d, frame, m, reply);
     return on_data(d, frame, m, reply);
 }
+#endif
+
+#ifdef FRAMES
+// One whole frame of the kind awaited, judged where it lies: how many bytes are answered, -1 to -3 for D1 to D3, or -4 for E1.
+static int hand(struct device *d, const u8 *frame, size n, u8 *code, size code_n, u8 *data, size data_n, u8 *reply, size reply_n)
+{
+    if (code_n != CODE_SIZE)
+        return -1;
+    if (data_n != DATA_SIZE)
+        return -2;
+    if (reply_n < 16)
+        return -3;
+    if (d->phase == SILENT || d->phase == MODE || d->have != 0)
+        return -4;
+    if (n < 2 || n != (frame[1] ? frame[1] : 256) + 4u || frame[0] != (d->task == IDLE ? 0x01 : 0x02))
+        return -4;
+    struct lent m = {code, data};
+    if (d->task == IDLE)
+        return on_command(d, frame, m, reply);
+    return on_data(d, frame, m, reply);
+}
+#endif
 
 #endif
 
@@ -727,6 +752,33 @@ size plain_engine(const u8 *bytes, size n, size start, size shown, u8 *held, u8 
             sum = mixed(sum, named(12 - answered));
         else if (answered > 0)
             sum = mixed_bytes(mixed(sum, answered), reply, less_of(answered, shown));
+    }
+    return sum;
+}
+#endif
+
+#ifdef FRAMES
+// The same input, cut into frames by their own LEN, each handed over whole.
+size plain_frames(const u8 *bytes, size n, size start, size shown, u8 *held, u8 *code, size code_n, u8 *data, size data_n, u8 *reply, size reply_n)
+{
+    struct device d = waiting;
+    size sum = 0;
+    (void)held;
+    if (start != 0) {
+        d.sf1 = start;
+        d.sf2 = start >> 8;
+        d.phase = d.sf2 & IFPR ? MODE : SILENT;
+    }
+    for (size at = 0; at < n;) {
+        size left = n - at, frame = left;
+        if (left >= 2 && (bytes[at + 1] ? bytes[at + 1] : 256) + 4u < left)
+            frame = (bytes[at + 1] ? bytes[at + 1] : 256) + 4u;
+        int answered = hand(&d, bytes + at, frame, code, code_n, data, data_n, reply, reply_n);
+        if (answered < 0)
+            sum = mixed(sum, named(12 - answered));
+        else if (answered > 0)
+            sum = mixed_bytes(mixed(sum, answered), reply, less_of(answered, shown));
+        at += frame;
     }
     return sum;
 }

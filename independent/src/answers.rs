@@ -70,6 +70,22 @@ impl Answers {
         text
     }
 
+    /// The lines that tell what is answered to a whole frame.
+    fn take_frame(&mut self, bytes: &[u8]) -> String {
+        let Answer { bytes, note } = match self.chip.take_frame(bytes) {
+            Ok(answer) => answer,
+            Err(refusal) => return format!("refused {refusal}\n"),
+        };
+        let mut text = String::new();
+        if !bytes.is_empty() {
+            text.push_str(&byte_line("<", &bytes));
+        }
+        if let Some(note) = note {
+            text.push_str(&format!("{note}\n"));
+        }
+        text
+    }
+
     fn show(&self) -> String {
         let Options { sf1, sf2, sws, swe } = self.chip.options;
         let mut text = format!("phase {}\n", self.chip.phase().name());
@@ -126,6 +142,11 @@ impl LineRunner for Answers {
                 let bytes = hex_bytes(rest)?;
                 out.push_str(&byte_line(">", &bytes));
                 out.push_str(&self.receive(&bytes));
+            }
+            (b"frame", _) => {
+                let bytes = hex_bytes(rest)?;
+                out.push_str(&byte_line("frame", &bytes));
+                out.push_str(&self.take_frame(&bytes));
             }
             (b"?", []) => out.push_str(&self.show()),
             (b"play", []) => out.push_str(&self.play()),

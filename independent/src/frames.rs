@@ -105,6 +105,18 @@ pub struct Received {
 }
 
 impl Received {
+    /// Bytes that are one whole frame by their own LEN, with this start byte.
+    pub fn of_whole(bytes: &[u8], start: u8) -> Option<Received> {
+        let [first, len, rest @ ..] = bytes else {
+            return None;
+        };
+        let [body @ .., sum, end] = rest else {
+            return None;
+        };
+        let is_whole = *first == start && body.len() == body_length(*len);
+        is_whole.then(|| Received { len: *len, body: body.to_vec(), sum: *sum, end: *end })
+    }
+
     pub fn sum_is_right(&self) -> bool {
         self.sum == sum_of(self.len, &self.body)
     }

@@ -125,6 +125,11 @@ impl Tape<Answers> {
         self.line(&byte_line(">", bytes));
     }
 
+    /// Hands over a whole frame, or what should be one.
+    fn hand(&mut self, bytes: &[u8]) {
+        self.line(&byte_line("frame", bytes));
+    }
+
     /// From power-on past Baud Rate Set.
     fn set_speed(&mut self) {
         self.line("!");

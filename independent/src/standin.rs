@@ -1,5 +1,7 @@
 //! The stand-in: the chip's side of the line, one received byte a call.
 
+use std::fmt;
+
 use crate::chip::{BLANK, D0, Flash, Model, Span, all_blank, checksum};
 use crate::frames::{self, COMMAND_START, DATA_START, END, Received, Receiver, code};
 use crate::note::Note;
@@ -88,6 +90,29 @@ pub struct Answer {
 impl Answer {
     fn without_note(bytes: Vec<u8>) -> Answer {
         Answer { bytes, note: None }
+    }
+}
+
+/// Why the whole-frame engine does not take its input.
+#[derive(Clone, Copy, Debug, PartialEq, Eq)]
+pub enum NotTaken {
+    D0,
+    /// Not one whole frame of the kind awaited, or no frame is awaited.
+    E1,
+}
+
+impl From<D0> for NotTaken {
+    fn from(_: D0) -> NotTaken {
+        NotTaken::D0
+    }
+}
+
+impl fmt::Display for NotTaken {
+    fn fmt(&self, out: &mut fmt::Formatter) -> fmt::Result {
+        out.write_str(match self {
+            NotTaken::D0 => "D0",
+            NotTaken::E1 => "E1",
+        })
     }
 }
 
@@ -207,6 +232,22 @@ impl StandIn {
                 },
             },
         }
+    }
+
+    /// The second engine: takes one whole frame of the kind awaited. What it
+    /// does not take changes nothing.
+    pub fn take_frame(&mut self, bytes: &[u8]) -> Result<Answer, NotTaken> {
+        self.model().check()?;
+        let awaits_frames = matches!(self.phase, Phase::Speed | Phase::Ident | Phase::Command);
+        if !awaits_frames || !self.receiver.is_idle() {
+            return Err(NotTaken::E1);
+        }
+        let start = if self.transfer.is_some() { DATA_START } else { COMMAND_START };
+        let frame = Received::of_whole(bytes, start).ok_or(NotTaken::E1)?;
+        Ok(match self.transfer.take() {
+            None => self.take_command(&frame),
+            Some(transfer) => self.take_page(transfer, &frame),
+        })
     }
 
     /// Takes bytes one by one and gives all that was answered to them.

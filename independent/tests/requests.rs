@@ -543,3 +543,129 @@ mod m103_intel_hex_in {
         std::fs::remove_dir_all(dir).expect("the files are removed");
     }
 }
+
+mod m109_the_whole_frame_engine {
+    use super::*;
+
+    #[test]
+    fn the_trials_by_frame() {
+        for (frame, due) in [
+            ("01 01 00 FF 03", "< 02 01 06 F9 03"),
+            ("01 01 00 FE 03", "< 02 01 07 F8 03"),
+            ("01 01 00 FE 17", "< 02 01 15 EA 03|note end"),
+            ("01 01 55 AA 03", "< 02 01 04 FB 03"),
+            ("01 01 a1 5e 03", "< 02 01 06 F9 03 02 03 17 1D 00 C9 03"),
+            ("01 02 00 00 FE 03", "< 02 01 15 EA 03|note len 01 02"),
+        ] {
+            let lines = in_command("", &format!("frame {frame}\n"));
+            assert_eq!(lines[0], format!("frame {}", frame.to_uppercase()));
+            assert_eq!(lines[1..].join("|"), due);
+        }
+    }
+
+    #[test]
+    fn no_whole_frame_of_the_kind_awaited() {
+        for frame in [
+            "",
+            " 01",
+            " 01 01 00 FF",
+            " 01 01 00 FF 03 00",
+            " 01 01 00 FF 03 01 01 00 FF 03",
+            " 02 01 00 FF 03",
+            " 00 01 01 00 FF 03",
+            " 01 02 00 FF 03",
+            " 01 00 00 FF 03",
+        ] {
+            let lines = in_command("", &format!("frame{frame}\n> 01 01 00 FF 03\n"));
+            assert_eq!(lines, [&format!("frame{frame}"), "refused E1", "< 02 01 06 F9 03"]);
+        }
+    }
+
+    #[test]
+    fn pages_by_frame() {
+        let program = "frame 01 07 40 00 10 0F FF 11 0F 7B 03\n";
+        let page = |end: &str| format!("frame 02 00{} 00 {end}\n", " A5".repeat(256));
+        let script = format!("{program}frame 01 01 00 FF 03\n{}{}?\n", page("17"), page("03"));
+        let lines = in_command("", &script);
+        let told: Vec<&str> =
+            lines.iter().map(String::as_str).filter(|line| !line.starts_with("frame")).collect();
+        assert_eq!(told[..3], ["< 02 01 06 F9 03", "refused E1", "< 02 02 06 06 F2 03"]);
+        assert_eq!(told[3..5], ["< 02 02 06 06 F2 03", "phase Command"]);
+        assert_eq!(told.len(), 8);
+        // A page of another LEN is a whole frame, and answered.
+        let lines = in_command("", &format!("{program}frame 02 01 00 FF 17\n"));
+        assert_eq!(lines[3..], ["< 02 02 15 06 E3 03", "note len 00 01"]);
+    }
+
+    #[test]
+    fn where_no_frame_is_awaited() {
+        let reset = "frame 01 01 00 FF 03\n";
+        let speed = "frame 01 03 9A 00 21 42 03\n";
+        let refused = format!("{reset}refused E1\n");
+        // Power off; mode byte awaited; Silent; a frame half received.
+        assert_eq!(answers(reset), refused);
+        assert_eq!(answers(&format!("!\n{reset}")), format!("!\n{refused}"));
+        assert_eq!(answers("!\nframe 3A\n"), "!\nframe 3A\nrefused E1\n");
+        assert_eq!(answers(&format!("!\n> 3B\n{reset}")), format!("!\n> 3B\n{refused}"));
+        let half = format!("!\n> 3A\n> 01 03\n{speed}> 9A 00 21 42 03\n");
+        let due = format!(
+            "!\n> 3A\n> 01 03\n{speed}refused E1\n> 9A 00 21 42 03\n< 02 03 06 20 00 D7 03\n"
+        );
+        assert_eq!(answers(&half), due);
+        // Speed and Ident await frames. Skipped bytes are not half a frame.
+        let text = answers(&format!("!\n> 3A 00 02\n{reset}{speed}"));
+        assert_eq!(
+            text,
+            format!("!\n> 3A 00 02\n{reset}< 02 01 04 FB 03\n{speed}< 02 03 06 20 00 D7 03\n")
+        );
+        // D0 comes before.
+        assert_eq!(answers("chip 1 2\nframe\n"), "frame\nrefused D0\n");
+        assert_eq!(answers(&format!("chip 1 2\n{reset}")), format!("{reset}refused D0\n"));
+    }
+
+    #[test]
+    fn no_answer() {
+        let shut = "frame 01 04 A0 FF FB 00 62 03\n";
+        let text = answers(&format!("{BRING_UP}{shut}{shut}"));
+        assert!(text.ends_with(&format!("D7 03\n{shut}{shut}refused E1\n")), "{text}");
+    }
+
+    /// A whole frame that is taken does what its bytes do one by one.
+    #[test]
+    fn equal_to_the_byte_engine() {
+        let script = run(&["generate", "scripts", "109", "120"], &[]);
+        let told = answers(&script);
+        let mut as_bytes = String::new();
+        let mut due = String::new();
+        let mut lines = told.lines().peekable();
+        let mut taken = 0;
+        // The echo of the lines in `told` shows which were taken.
+        let mut echoes = Vec::new();
+        while let Some(line) = lines.next() {
+            if let Some(frame) = line.strip_prefix("frame") {
+                let refused = lines.peek().is_some_and(|next| next.starts_with("refused"));
+                echoes.push(!refused);
+                if refused {
+                    lines.next();
+                } else {
+                    taken += 1;
+                    due.push_str(&format!(">{frame}\n"));
+                }
+            } else {
+                due.push_str(&format!("{line}\n"));
+            }
+        }
+        let mut echoes = echoes.into_iter();
+        for line in script.lines() {
+            match line.strip_prefix("frame") {
+                None => as_bytes.push_str(&format!("{line}\n")),
+                Some(frame) if echoes.next() == Some(true) => {
+                    as_bytes.push_str(&format!(">{frame}\n"));
+                }
+                Some(_) => {}
+            }
+        }
+        assert!(taken > 100, "{taken}");
+        assert_eq!(answers(&as_bytes), due);
+    }
+}

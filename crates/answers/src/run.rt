@@ -10,6 +10,7 @@ use text_read::in_hand;
 use text_read::in_hand::InHand;
 use text_read::line::line_end;
 use text_read::part;
+use text_script::handed;
 use text_script::script_line;
 use text_script::script_line::Line;
 use text_script::send;
@@ -87,6 +88,7 @@ fn act(
         Line::Store(f, at) => store(s, f, at, part::rest(text, script_line::STORED), code, data),
         Line::PowerOn => power_on(s, &*code, &*data),
         Line::Bytes => send::line(s, part::rest(text, script_line::SENT), code, data),
+        Line::Frame => handed::line(s, part::rest(text, script_line::FRAME), code, data),
         Line::Show => show(s, &*code, &*data),
         Line::Sheet => s,
         Line::Play => play(s, sheet, code, data),

@@ -14,10 +14,10 @@ use Rattle.rules.specs.declared.Note.the-variants.{Empty}
 use Rattle.rules.specs.declared.Report.{Report}
 use Rattle.rules.specs.declared.Task.the-variants.{Idle}
 use Rattle.rules.specs.declared.numbers.Number.{Number}
-use Rattle.rules.specs.Chip.{Memory, small, same}
+use Rattle.rules.specs.Chip.{Memory, small, same, over}
 use Rattle.rules.specs.Options.{freshOptions}
 use Rattle.rules.specs.Command.{phaseNumber}
-use Rattle.rules.specs.StandIn.{State, Out, outs, powered, powerOn, byteCall, rest}
+use Rattle.rules.specs.StandIn.{State, Out, Outcome, outs, feed, powered, powerOn, byteCall, rest}
 use Rattle.rules.specs.Sheet.{verdict}
 use Rattle.rules.specs.Meaning.{Ended, meaning, stepFrames}
 use Rattle.rules.specs.Numbers.{noteNumbers, callNumber, verdictNumber, nextNumber, statusNumber}
@@ -26,6 +26,8 @@ use Rattle.rules.specs.Run.{Joined, Ran, clean, joinedAtStart, run, wait
 use Rattle.rules.specs.Rows.{sameNumber, sameOptions, sameMemory, alike, Exchange, Session, gives, comesLast, stateAfter, exchanged, holds, allHold, Play, reports, noSums, noFrames, meant, ranTo, opened, plays, allPlay, Lending, lentMemory, lends, allLend, Calling, calls, allCall}
 use Rattle.rules.specs.Hex.{madeNumber, madeLine}
 use Rattle.rules.specs.HexTexts.{HexText, lentOut, makingIn, writtenIn, makes, allMake}
+use Rattle.rules.specs.WholeFrame.{frameCall}
+use Rattle.rules.specs.WholeFrames.{Handed, hands, allHand}
 use Rattle.rules.proofs.Bytes.{same-equal}
 use Rattle.rules.proofs.Choices.{both}
 
@@ -320,3 +322,51 @@ pub all-made : (ts : List HexText) → allMake ts ≡ true → All Makes ts
 unfolding allMake
 all-made [] e = tt
 all-made (t ∷ ts) e = let p = both (makes t) (allMake ts) e in (making t (p .0), all-made ts (p .1))
+
+-- ---- whole frames handed over ----
+
+pub record Hands (t : Handed) : Type 0 where
+  pub end : Outcome
+  pub there : end ≡ frameCall (t .chip) (feed (t .chip) (powered (t .options) (t .memory)) (t .sent) .state) (replicate (t .reply) 0) (t .input)
+  pub call : callNumber (end .call) ≡ t .call
+  pub reply : end .reply ≡ over (t .answer) (replicate (t .reply) 0)
+  pub note : noteNumbers (end .note) ≡ noteNumbers (t .note)
+  pub phase : phaseNumber (end .state .phase) ≡ t .phase
+  pub half : end .state .got ≡ t .half
+  pub options : end .state .options ≡ t .options
+  pub memory : end .state .memory ≡ t .memoryAfter
+
+is-handed : (t : Handed) → hands t ≡ true → Hands t
+unfolding hands
+is-handed t h =
+    let old : List ℕ = replicate (t .reply) 0 in
+    let o = frameCall (t .chip) (feed (t .chip) (powered (t .options) (t .memory)) (t .sent) .state) old (t .input) in
+    let s = o .state in
+    let a = sameNumber (callNumber (o .call)) (t .call) in
+    let b = same (o .reply) (over (t .answer) old) in
+    let c = same (noteNumbers (o .note)) (noteNumbers (t .note)) in
+    let d = eqb (phaseNumber (s .phase)) (t .phase) in
+    let e = same (s .got) (t .half) in
+    let f = sameOptions (s .options) (t .options) in
+    let g = both (a && b && c && d && e && f) (sameMemory (s .memory) (t .memoryAfter)) h in
+    let k = both (a && b && c && d && e) f (g .0) in
+    let l = both (a && b && c && d) e (k .0) in
+    let m = both (a && b && c) d (l .0) in
+    let n = both (a && b) c (m .0) in
+    let p = both a b (n .0) in
+    record {
+      end = o;
+      there = refl;
+      call = number-equal (callNumber (o .call)) (t .call) (p .0);
+      reply = same-equal (o .reply) (over (t .answer) old) (p .1);
+      note = same-equal (noteNumbers (o .note)) (noteNumbers (t .note)) (n .1);
+      phase = eqb-true (phaseNumber (s .phase)) (t .phase) (m .1);
+      half = same-equal (s .got) (t .half) (l .1);
+      options = options-equal (s .options) (t .options) (k .1);
+      memory = memory-equal (s .memory) (t .memoryAfter) (g .1);
+    }
+
+pub all-hand : (ts : List Handed) → allHand ts ≡ true → All Hands ts
+unfolding allHand
+all-hand [] e = tt
+all-hand (t ∷ ts) e = let p = both (hands t) (allHand ts) e in (is-handed t (p .0), all-hand ts (p .1))

@@ -5,11 +5,12 @@ use Rattle.rules.specs.Compute.{everything}
 use Rattle.rules.specs.Rows.{comesLast, stateAfter, exchanged, holds, allHold, plays, allPlay, lends, allLend, calls, allCall}
 use Rattle.rules.specs.Starred.{starred}
 use Rattle.rules.specs.Trials.{further, sheets, lengths, playerCalls}
-use Rattle.rules.proofs.Rows.{All, Held, all-held, Played, all-played, Lent, all-lent, Answers, all-answer, Makes, all-made}
+use Rattle.rules.proofs.Rows.{All, Held, all-held, Played, all-played, Lent, all-lent, Answers, all-answer, Makes, all-made, Hands, all-hand}
 use Rattle.rules.specs.Texts.{allPrint, printed, texts}
 use Rattle.rules.specs.Blank.{blankChecks}
 use Rattle.rules.specs.BadFrames.{badFrames}
 use Rattle.rules.specs.HexTexts.{makes, allMake, pairsOf, recordOf, oneEach, hexTexts, hexBlocks}
+use Rattle.rules.specs.WholeFrames.{hands, allHand, wholeFrames}
 use Rattle.rules.specs.Chips.{chipLengths, chipSessions, chipSheets}
 
 -- THE STARRED TRIALS, 1 to 12
@@ -73,6 +74,11 @@ pub hex-block-trials : allMake hexBlocks ≡ true
 unfolding everything makes allMake pairsOf recordOf oneEach hexBlocks
 hex-block-trials = refl
 
+-- M-109: whole frames handed over
+pub whole-frames : allHand wholeFrames ≡ true
+unfolding everything hands allHand wholeFrames
+whole-frames = refl
+
 -- ---- what the rows say ----
 
 pub starred-say : All Held starred
@@ -110,3 +116,6 @@ hex-say = all-made hexTexts hex-trials
 
 pub hex-blocks-say : All Makes hexBlocks
 hex-blocks-say = all-made hexBlocks hex-block-trials
+
+pub whole-frames-say : All Hands wholeFrames
+whole-frames-say = all-hand wholeFrames whole-frames

@@ -5,6 +5,7 @@ pub mod Frame
 pub mod State
 pub mod Command
 pub mod StandIn
+pub mod WholeFrame
 pub mod Sheet
 pub mod Meaning
 pub mod Player
@@ -22,3 +23,4 @@ pub mod Chips
 pub mod Blank
 pub mod BadFrames
 pub mod HexTexts
+pub mod WholeFrames

@@ -3,7 +3,7 @@ use Prim.Native.Nat.{ℕ}
 use mathlib.Core.List.{List, [], _∷_}
 use Rattle.rules.specs.declared.numbers.Number.{Number}
 use Rattle.rules.specs.declared.Refusal.{Refusal}
-use Rattle.rules.specs.declared.Refusal.the-variants.{D0, D1, D2, D3, J1, J2, J3, J4, J5, J6, J7, J8, J9, J10, P1, P2}
+use Rattle.rules.specs.declared.Refusal.the-variants.{D0, D1, D2, D3, E1, J1, J2, J3, J4, J5, J6, J7, J8, J9, J10, P1, P2}
 use Rattle.rules.specs.declared.Call.{Call}
 use Rattle.rules.specs.declared.Call.the-variants as call
 use Rattle.rules.specs.declared.Verdict.{Verdict}
@@ -22,12 +22,13 @@ use Rattle.rules.specs.declared.Kind.the-variants.{Erase, Write, Verify,
 abbrev number : ℕ → ℕ → Number
 number l n = record { letter = l; number = n }
 
--- Status bytes (D), The job sheet (J, P)
+-- Status bytes (D), The job sheet (J, P); 02, M-109 (E)
 abbrev pub refusalNumber : Refusal → Number
 refusalNumber D0 = number 0x44 0
 refusalNumber D1 = number 0x44 1
 refusalNumber D2 = number 0x44 2
 refusalNumber D3 = number 0x44 3
+refusalNumber E1 = number 0x45 1
 refusalNumber J1 = number 0x4A 1
 refusalNumber J2 = number 0x4A 2
 refusalNumber J3 = number 0x4A 3

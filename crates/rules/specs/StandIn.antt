@@ -151,6 +151,14 @@ abbrev pub holding : State → List ℕ → Out
 holding s g =
     out (record { phase = s .phase; task = s .task; options = s .options; got = g; memory = s .memory }) []
 
+-- the phases that take frames: not the one that waits for a mode byte, nor silence
+abbrev pub listening : Phase → Bool
+listening Mode = false
+listening Speed = true
+listening Ident = true
+listening Command = true
+listening Silent = false
+
 -- "01h is awaited for commands, 02h for data"
 abbrev pub startOf : Task → ℕ
 startOf Idle = commandStart

@@ -128,12 +128,13 @@ pub enum Judged {
     Ordered(Order),
 }
 
-// The refusals that 01 numbers.
+// The refusals that 01 and 02 number.
 pub enum Refusal {
     D0,
     D1,
     D2,
     D3,
+    E1,
     J1,
     J2,
     J3,

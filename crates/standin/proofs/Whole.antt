@@ -82,7 +82,7 @@ module _ (chip : Chip) (s : State) (listens : phaseNumber (s .phase) ≡ 4 → �
         let short = goes-on g b n (beginning h (c ∷ bs) (λ z. omega arith) (ap whole q ∙ w)) in
         quiet g b c bs short (by-rest h c bs (λ z. omega (arith, length-append g (b ∷ []))) q)
 
-    by-frame : (l : ℕ) (bs : List ℕ) → let b = startOf (taskNow chip (s .phase) (s .task)) in b ∷ l ∷ bs ≡ f → P [] b (l ∷ bs)
+    pub by-frame : (l : ℕ) (bs : List ℕ) → let b = startOf (taskNow chip (s .phase) (s .task)) in b ∷ l ∷ bs ≡ f → P [] b (l ∷ bs)
     by-frame l bs e =
         let b = startOf (taskNow chip (s .phase) (s .task)) in
         let first : step chip (with []) b ≡ holding s (b ∷ []) =

@@ -20,10 +20,10 @@ use Rattle.rules.specs.declared.Verdict.the-variants as v
 use Rattle.rules.specs.Chip.{over}
 use Rattle.rules.specs.Frame.{frameSize, lenOf, whole}
 use Rattle.rules.specs.Command.{phaseNumber}
-use Rattle.rules.specs.StandIn.{State, Out, out, rest, holding, startOf, taskNow, onFrame, receive, takes, step, afterMode, answered, lentVerdict, byteBy, byteCall, received}
+use Rattle.rules.specs.StandIn.{State, Out, out, rest, holding, listening, startOf, taskNow, onFrame, receive, takes, step, afterMode, answered, lentVerdict, byteBy, byteCall, received}
 use Rattle.frame_build.proofs.Frames.{frame-size, body-least}
 use Rattle.frame_build.specs.Buffer.{frameIn}
-use Rattle.standin_engine.specs.View.{callOutcome, heldCount, listening}
+use Rattle.standin_engine.specs.View.{callOutcome, heldCount}
 
 -- ---- what is held ----
 

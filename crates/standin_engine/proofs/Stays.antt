@@ -5,7 +5,7 @@ use native.Mathlib.Omega.{arith}
 use Rattle.rules.specs.declared.Call.{Call}
 use Rattle.rules.specs.declared.Call.the-variants.{Refused, Answer}
 use Rattle.rules.specs.declared.Refusal.{Refusal}
-use Rattle.rules.specs.declared.Refusal.the-variants.{D0, D1, D2, D3, J1, J2, J3, J4, J5, J6, J7, J8, J9, J10, P1, P2}
+use Rattle.rules.specs.declared.Refusal.the-variants.{D0, D1, D2, D3, E1, J1, J2, J3, J4, J5, J6, J7, J8, J9, J10, P1, P2}
 use Rattle.rules.specs.Numbers.{refusalNumber, callNumber}
 use Rattle.standin_engine.specs.Stands.{Stands}
 
@@ -19,6 +19,7 @@ letter D0 e = omega (arith, e)
 letter D1 e = omega (arith, e)
 letter D2 e = omega (arith, e)
 letter D3 e = omega (arith, e)
+letter E1 e = omega (arith, e)
 letter J1 e = omega (arith, e)
 letter J2 e = omega (arith, e)
 letter J3 e = omega (arith, e)

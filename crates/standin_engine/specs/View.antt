@@ -1,12 +1,10 @@
 -- What a device's record shows: the state that the definitions speak of. Assumes nothing.
 use Prim.Native.Nat.{ℕ}
-use mathlib.Core.Bool.{Bool, true, false, cond, _||_}
+use mathlib.Core.Bool.{cond, _||_}
 use mathlib.Core.List.{List}
 use lib.Dec.{ltb}
 use Rattle.rules.specs.declared.Call.{Call}
 use Rattle.rules.specs.declared.Note.{Note}
-use Rattle.rules.specs.declared.Phase.{Phase}
-use Rattle.rules.specs.declared.Phase.the-variants.{Mode, Speed, Ident, Command, Silent}
 use Rattle.rules.specs.Chip.{Memory}
 use Rattle.rules.specs.Frame.{frameSize, lenOf}
 use Rattle.rules.specs.StandIn.{State, Outcome, received}
@@ -34,11 +32,3 @@ callOutcome s call note reply = record { state = s; call = call; reply = reply; 
 -- how many bytes of a frame a count and a buffer hold
 unfoldable pub heldCount : ℕ → List ℕ → ℕ
 heldCount n buffer = cond (ltb n 2 || ltb n (frameSize (lenOf buffer))) n 0
-
--- the phases that take frames
-abbrev pub listening : Phase → Bool
-listening Mode = false
-listening Speed = true
-listening Ident = true
-listening Command = true
-listening Silent = false

@@ -17,10 +17,10 @@ ghost use Rattle.rules.specs.declared.Note.the-variants.{Empty};
 ghost use Rattle.rules.specs.Chip.{Memory};
 ghost use Rattle.rules.specs.Frame.{frameSize, lenOf};
 ghost use Rattle.rules.specs.Numbers.{callNumber};
-ghost use Rattle.rules.specs.StandIn.{byteCall, receive, answered, received};
+ghost use Rattle.rules.specs.StandIn.{byteCall, receive, answered, received, listening};
 ghost use Rattle.chip_finder.specs.LentFlashes.{memory};
 ghost use Rattle.standin_state.specs.View.{Fits};
-ghost use Rattle.standin_engine.specs.View.{view, callOutcome, heldCount, holds, listening};
+ghost use Rattle.standin_engine.specs.View.{view, callOutcome, heldCount, holds};
 ghost use Rattle.standin_engine.specs.Change.{callOf, changeOutcome, coreOutcome};
 ghost use Rattle.standin_engine.specs.Stands.{Stands};
 
@@ -116,7 +116,7 @@ fn receive(
 }
 
 // The phases that take frames: not the one that waits for a mode byte, nor silence.
-fn listens(phase: Phase) -> bool
+pub fn listens(phase: Phase) -> bool
     ensures { λ r. ⌜ r ≡ listening phase ⌝ }
 {
     match phase {

@@ -9,7 +9,7 @@ use Rattle.rules.specs.declared.Flash.{Flash}
 use Rattle.rules.specs.declared.Flash.the-variants.{Code, Data}
 use Rattle.rules.specs.Chip.{Memory, small, same, block, firstByte}
 use Rattle.rules.specs.Text.{ascii}
-use Rattle.rules.specs.Lines.{between, startsWith, rowBytes}
+use Rattle.rules.specs.Lines.{between, startsWith, isRow, rowBytes}
 use Rattle.chip_finder.specs.LentFlashes.{memory}
 use Rattle.text_read.specs.declared.number.Number.{Number}
 use Rattle.text_read.specs.declared.number.Number.the-variants as number
@@ -17,8 +17,8 @@ use Rattle.text_read.specs.Bytes.{isBytes, Stored, stored}
 use Rattle.text_read.specs.Numerals.{hexOf}
 use Rattle.text_read.specs.Chips.{chipNamed}
 use Rattle.text_script.specs.declared.script_line.Line.{Line}
-use Rattle.text_script.specs.declared.script_line.Line.the-variants.{Bad, OfChip, Store, PowerOn, Bytes, Show, Sheet, Play}
-use Rattle.text_script.specs.Script.{placeOf, placed, storeOf, fieldOf, withOptions, optionsOf, chipOf, wordOf, rowLine, lineOf}
+use Rattle.text_script.specs.declared.script_line.Line.the-variants.{Bad, OfChip, Store, PowerOn, Bytes, Frame, Show, Sheet, Play}
+use Rattle.text_script.specs.Script.{placeOf, placed, storeOf, fieldOf, withOptions, optionsOf, chipOf, handedOf, wordOf, rowLine, lineOf}
 use Rattle.text_script.specs.Chips.{storedIn}
 
 -- ---- a place in a flash ----
@@ -87,9 +87,14 @@ module _ (t : List ℕ) where
           unfolding wordOf
           word-chip e = rw (a, b, c, d, e)
 
-          pub word-none : startsWith (ascii "chip ") t ≡ false → wordOf t ≡ Bad
-          unfolding wordOf
-          word-none e = rw (a, b, c, d, e)
+          module _ (f : startsWith (ascii "chip ") t ≡ false) where
+            pub word-frame : startsWith (ascii "frame") t ≡ true → wordOf t ≡ handedOf (drop 5 t)
+            unfolding wordOf
+            word-frame e = rw (a, b, c, d, f, e)
+
+            pub word-none : startsWith (ascii "frame") t ≡ false → wordOf t ≡ Bad
+            unfolding wordOf
+            word-none e = rw (a, b, c, d, f, e)
 
       pub word-play : same t (ascii "play") ≡ true → wordOf t ≡ Play
       unfolding wordOf
@@ -104,6 +109,15 @@ module _ (t : List ℕ) where
   word-on e = rw e
 
 -- ---- a row ----
+
+module _ (r : List ℕ) where
+  pub handed-yes : isRow r ≡ true → handedOf r ≡ Frame
+  unfolding handedOf
+  handed-yes e = rw e
+
+  pub handed-no : isRow r ≡ false → handedOf r ≡ Bad
+  unfolding handedOf
+  handed-no e = rw e
 
 module _ (said : Line) (r : List ℕ) where
   pub row-yes : isBytes r ≡ true → rowLine said r ≡ said

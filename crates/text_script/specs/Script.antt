@@ -8,7 +8,7 @@ use Rattle.rules.specs.declared.Flash.{Flash}
 use Rattle.rules.specs.declared.Flash.the-variants.{Code, Data}
 use Rattle.rules.specs.Chip.{small, same, block, firstByte}
 use Rattle.rules.specs.Text.{ascii}
-use Rattle.rules.specs.Lines.{between, startsWith, rowBytes}
+use Rattle.rules.specs.Lines.{between, startsWith, isRow, rowBytes}
 use Rattle.text_read.specs.declared.number.Number.{Number}
 use Rattle.text_read.specs.declared.number.Number.the-variants as number
 use Rattle.text_read.specs.Bytes.{isBytes}
@@ -17,7 +17,7 @@ use Rattle.text_read.specs.declared.chips.Named.{Named}
 use Rattle.text_read.specs.declared.chips.Named.the-variants.{Is, None}
 use Rattle.text_read.specs.Chips.{chipNamed}
 use Rattle.text_script.specs.declared.script_line.Line.{Line}
-use Rattle.text_script.specs.declared.script_line.Line.the-variants.{Bad, OfChip, Stored, Store, PowerOn, Bytes, Show, Sheet, Play}
+use Rattle.text_script.specs.declared.script_line.Line.the-variants.{Bad, OfChip, Stored, Store, PowerOn, Bytes, Frame, Show, Sheet, Play}
 
 -- ---- `code AAAAA HH ..`, `data AAAAA HH ..` ----
 
@@ -63,6 +63,11 @@ abbrev pub chipOf : Named → Line
 chipOf (Is k) = OfChip k
 chipOf None = Bad
 
+-- ---- `frame HH ..`, and `frame` alone for nothing ----
+
+unfoldable pub handedOf : List ℕ → Line
+handedOf r = cond (isRow r) Frame Bad
+
 -- ---- a line ----
 
 -- `fresh` is `chip small`
@@ -76,7 +81,9 @@ wordOf t =
     Play
     (cond (same t (ascii "fresh"))
     (OfChip small)
-    (cond (startsWith (ascii "chip ") t) (chipOf (chipNamed (drop 5 t))) Bad))))
+    (cond (startsWith (ascii "chip ") t)
+    (chipOf (chipNamed (drop 5 t)))
+    (cond (startsWith (ascii "frame") t) (handedOf (drop 5 t)) Bad)))))
 
 -- a line that says this, if its row has at least one byte
 unfoldable pub rowLine : Line → List ℕ → Line

@@ -14,7 +14,7 @@ use text_read::rows;
 ghost use mathlib.Core.Path.{_≡_};
 ghost use lib.ListN.{drop};
 ghost use Rattle.text_read.specs.Chips.{chipNamed};
-ghost use Rattle.text_script.specs.Script.{placeOf, storeOf, fieldOf, withOptions, optionsOf, chipOf, wordOf, rowLine, lineOf};
+ghost use Rattle.text_script.specs.Script.{placeOf, storeOf, fieldOf, withOptions, optionsOf, chipOf, handedOf, wordOf, rowLine, lineOf};
 ghost use Rattle.text_script.specs.declared.script_line.Line.the-variants.{Bytes, Sheet};
 
 pub enum Line {
@@ -24,6 +24,7 @@ pub enum Line {
     Store(Flash, usize),
     PowerOn,
     Bytes,
+    Frame,
     Show,
     Sheet,
     Play,
@@ -33,6 +34,9 @@ pub enum Line {
 pub const STORED: usize = 10;
 
 pub const SENT: usize = 1;
+
+// And in one that hands over a frame, `frame HH ..`.
+pub const FRAME: usize = 5;
 
 // Where so many bytes go that are stored from an address, if they all lie in the flash.
 fn place(f: Flash, size: usize, address: u32, count: usize) -> Line
@@ -129,7 +133,17 @@ fn chip_line(text: &[u8]) -> Line
     }
 }
 
-// A line of one word, or one that names a chip.
+// `frame HH HH ..`, or `frame` alone for nothing.
+fn handed(text: &[u8]) -> Line
+    ensures { λ r. ⌜ r ≡ handedOf (drop 5 (now (text .entry))) ⌝ }
+{
+    if rows::is_row(part::rest(text, FRAME)) {
+        return Line::Frame;
+    }
+    Line::Bad
+}
+
+// A line of one word, or one that names a chip or hands over a frame.
 fn word(text: &[u8]) -> Line
     ensures { λ r. ⌜ r ≡ wordOf (now (text .entry)) ⌝ }
 {
@@ -147,6 +161,9 @@ fn word(text: &[u8]) -> Line
     }
     if starts_with(text, b"chip ") {
         return chip_line(text);
+    }
+    if starts_with(text, b"frame") {
+        return handed(text);
     }
     Line::Bad
 }

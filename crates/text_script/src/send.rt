@@ -16,12 +16,12 @@ struct Sent {
     answered: bool,
 }
 
-// Writes a row out again, its digits in upper case, in pieces of 256 bytes.
-fn echo(row: &[u8]) {
-    let mut line = [b'>'; 769];
-    let mut at: usize = 1;
+// Writes a row out again, its digits in upper case, in pieces of 256 bytes; and ends the line.
+pub(crate) fn echo(row: &[u8]) {
+    let mut line = [b' '; 768];
+    let mut at: usize = 0;
     for k in 0..rows::row_count(row) {
-        if at > 766 {
+        if at > 765 {
             io::write_all(1, part::between(&line, 0, at));
             at = 0;
         }
@@ -31,7 +31,7 @@ fn echo(row: &[u8]) {
     io::write_all(1, b"\n");
 }
 
-fn size_of(call: Call) -> usize {
+pub(crate) fn size_of(call: Call) -> usize {
     match call {
         Call::Answer(n) => n,
         Call::Refused(_) => 0,
@@ -39,7 +39,7 @@ fn size_of(call: Call) -> usize {
 }
 
 // Writes the first `size` bytes of a reply: they begin the answer line, or go on with it.
-fn answer(reply: &[u8], size: usize, answered: bool) {
+pub(crate) fn answer(reply: &[u8], size: usize, answered: bool) {
     let mut line = [b'<'; 64];
     let mut from: usize = 1;
     if answered {
@@ -50,7 +50,7 @@ fn answer(reply: &[u8], size: usize, answered: bool) {
 }
 
 // Writes the note's line, if there is one: it ends the answer line, and a later answer begins a new one.
-fn noted(note: Note) -> bool {
+pub(crate) fn noted(note: Note) -> bool {
     let mut line = [0u8; 64];
     let size = put_note(&mut line, 0, note);
     if size == 0 {
@@ -97,7 +97,7 @@ fn send_row(d: Device, row: &[u8], code: &mut [u8], data: &mut [u8]) -> Sent {
     s
 }
 
-fn end_line(answered: bool) {
+pub(crate) fn end_line(answered: bool) {
     if answered {
         io::write_all(1, b"\n");
     }
@@ -105,6 +105,7 @@ fn end_line(answered: bool) {
 
 // With the power off the line is only written out again.
 pub fn line(s: Session, row: &[u8], code: &mut [u8], data: &mut [u8]) -> Session {
+    io::write_all(1, b">");
     echo(row);
     if !s.on {
         return s;

@@ -8,7 +8,7 @@ use lib.Dec.{ltb, eqb}
 use lib.ListN.{length, getD, length-append}
 use Rattle.rules.specs.declared.Chip.{Chip}
 use Rattle.rules.specs.declared.Refusal.{Refusal}
-use Rattle.rules.specs.declared.Refusal.the-variants.{D0, D1, D2, D3, J1, J2, J3, J4, J5, J6, J7, J8, J9, J10, P1, P2}
+use Rattle.rules.specs.declared.Refusal.the-variants.{D0, D1, D2, D3, E1, J1, J2, J3, J4, J5, J6, J7, J8, J9, J10, P1, P2}
 use Rattle.rules.specs.declared.Verdict.the-variants.{Accepted}
 use Rattle.rules.specs.declared.Kind.{Kind}
 use Rattle.rules.specs.declared.Kind.the-variants.{Erase, Write, Verify, Sum}
@@ -111,6 +111,7 @@ refused-fits D0 = omega arith
 refused-fits D1 = omega arith
 refused-fits D2 = omega arith
 refused-fits D3 = omega arith
+refused-fits E1 = omega arith
 refused-fits J1 = omega arith
 refused-fits J2 = omega arith
 refused-fits J3 = omega arith

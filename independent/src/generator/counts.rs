@@ -21,7 +21,11 @@ pub fn write(tape: &mut Tape<Answers>, random: &mut Random) {
                 let reset = frames::command(code::RESET, &[]);
                 let speed = frames::command(code::SPEED, &[0x00, 0x21]);
                 let bytes = random.pick(&[&[0x3A][..], &speed, &reset]);
-                tape.send(bytes);
+                if random.chance(50) {
+                    tape.send(bytes);
+                } else {
+                    tape.hand(random.pick(&[bytes, &[]]));
+                }
             }
             4 => {
                 tape.line("?");

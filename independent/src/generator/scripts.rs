@@ -17,7 +17,9 @@ pub fn generate(seed: u64, count: u64) -> String {
     let mut tape = Tape::new(Answers::new());
     for case in 0..count {
         let random = Random::for_case(seed, case);
-        Script { tape: &mut tape, random, sent: 0, span: None }.write();
+        let mut random = random;
+        let hand_percent = random.pick(&[0, 0, 0, 25, 70]);
+        Script { tape: &mut tape, random, sent: 0, span: None, hand_percent }.write();
     }
     tape.text
 }
@@ -29,6 +31,8 @@ struct Script<'a> {
     sent: usize,
     /// The blocks that a command named last.
     span: Option<Span>,
+    /// How often frames are handed over whole.
+    hand_percent: usize,
 }
 
 impl Script<'_> {
@@ -93,10 +97,13 @@ impl Script<'_> {
         if self.random.chance(2) {
             self.tape.line("!");
         }
+        if self.random.chance(self.hand_percent / 5) {
+            self.hand_no_frame();
+        }
         match self.phase() {
             Phase::Off if self.random.chance(15) => {
                 let frame = self.any_command();
-                self.send(&frame);
+                self.send_frame(&frame);
             }
             Phase::Off => {
                 self.tape.line("!");
@@ -127,7 +134,7 @@ impl Script<'_> {
             Phase::Silent => {
                 if self.random.chance(50) {
                     let frame = self.any_command();
-                    self.send(&frame);
+                    self.send_frame(&frame);
                 }
                 if self.random.chance(80) {
                     self.tape.line("!");
@@ -140,15 +147,75 @@ impl Script<'_> {
         }
     }
 
+    /// Sends what is mostly a frame, or hands it over at once.
+    fn send_frame(&mut self, bytes: &[u8]) {
+        if self.random.chance(self.hand_percent) {
+            self.sent += bytes.len();
+            self.tape.hand(bytes);
+        } else {
+            self.send(bytes);
+        }
+    }
+
     /// Sends bytes in one line or in two.
     fn send(&mut self, bytes: &[u8]) {
         self.sent += bytes.len();
         let cut = if self.random.chance(12) { self.random.below(bytes.len()) } else { 0 };
         let (first, second) = bytes.split_at(cut);
-        for part in [first, second] {
-            if !part.is_empty() {
-                self.tape.send(part);
+        if !first.is_empty() {
+            self.tape.send(first);
+            if self.random.chance(self.hand_percent / 2) {
+                // Mostly refused: a frame is half received.
+                let frame = self.whole_frame();
+                self.tape.hand(&frame);
             }
+        }
+        self.tape.send(second);
+    }
+
+    /// Hands over what is mostly no whole frame of the kind awaited, or what
+    /// comes where none is awaited.
+    fn hand_no_frame(&mut self) {
+        let mut bytes = self.whole_frame();
+        match self.random.below(10) {
+            0 => bytes.clear(),
+            1 => bytes.truncate(self.random.below(bytes.len())),
+            2 => {
+                bytes.pop();
+            }
+            3 => bytes.push(self.random.pick(&[0x00, END, COMMAND_START])),
+            4 => bytes = [bytes.clone(), bytes].concat(),
+            5 => bytes[1] = self.wrong_len(bytes[1]),
+            // The other kind, or none.
+            6 => {
+                bytes[0] = match bytes[0] {
+                    COMMAND_START => self.random.pick(&[DATA_START, 0x00]),
+                    _ => self.random.pick(&[COMMAND_START, 0x00]),
+                };
+            }
+            7 => bytes.insert(0, self.random.pick(&[0x00, COMMAND_START, 0xFF])),
+            // Whole: only the phase is in its way, if anything is.
+            _ => {}
+        }
+        self.tape.hand(&bytes);
+    }
+
+    /// A frame for the phase: a page where data is awaited, else a command,
+    /// mostly short.
+    fn whole_frame(&mut self) -> Vec<u8> {
+        match self.tape.runner.chip().due_page() {
+            Some(due) if self.random.chance(30) => {
+                page_frame(&random_body(&mut self.random, due.page.length), due.last)
+            }
+            Some(due) => {
+                let body = self.random.bytes(3);
+                frames::build(DATA_START, &body, frames::page_end(due.last))
+            }
+            None => match self.phase() {
+                Phase::Speed => self.frame_for_speed(),
+                Phase::Ident => self.frame_for_ident(),
+                _ => self.any_command(),
+            },
         }
     }
 
@@ -171,7 +238,7 @@ impl Script<'_> {
             self.send_stray();
         }
         let frame = if self.random.chance(16) { self.damaged(frame) } else { frame };
-        self.send(&frame);
+        self.send_frame(&frame);
     }
 
     fn frame_for_speed(&mut self) -> Vec<u8> {
@@ -370,7 +437,7 @@ impl Script<'_> {
         }
         if self.random.chance(3) {
             let frame = self.any_command();
-            self.send(&frame);
+            self.send_frame(&frame);
             return;
         }
         let mut page = if due.writes {
@@ -386,7 +453,7 @@ impl Script<'_> {
         if self.random.chance(damage_percent) {
             frame = self.damaged_page(frame);
         }
-        self.send(&frame);
+        self.send_frame(&frame);
     }
 
     fn damaged_page(&mut self, mut frame: Vec<u8>) -> Vec<u8> {

@@ -1,6 +1,6 @@
 -- `text_script::script_line::word` meets its contract. Assumes nothing.
 use mathlib.Core.Path.{sym, ap, _∙_}
-use Rattle.text_script.proofs.Says.{word-on, word-show, word-play, word-fresh, word-chip, word-none}
+use Rattle.text_script.proofs.Says.{word-on, word-show, word-play, word-fresh, word-chip, word-frame, word-none}
 use Rattle.text_script.specs.declared.script_line.Line.the-variants.{OfChip}
 use borrow.Author.Needs.{needs}
 use Rattle.text_script.proofs.script_line.word.Statement.{statement}
@@ -68,13 +68,28 @@ returns-5 c =
 
 returns-6 : tie.Need-returns-6
 returns-6 c =
-    let w = c .before in
+    let t = c .before in
+    let x = t .before in
+    let k = x .before .before in
+    let w = k .before in
     let h = w .before .before in
     let s = h .before in
     let g = s .before .before in
     let f = g .before .before .before in
     let e = f .before .before .before in
-    sym (word-none _ (sym (e .before .same-bytes .ensures) ∙ e .if1 .left) (sym (f .before .same-bytes2 .ensures) ∙ f .if2 .left) (sym (g .before .same-bytes3 .ensures) ∙ g .if3 .left) (sym (s .same-bytes4 .ensures) ∙ h .if4 .left) (sym (w .starts-with .ensures) ∙ c .if5 .left))
+    c .handed .ensures ∙ sym (word-frame _ (sym (e .before .same-bytes .ensures) ∙ e .if1 .left) (sym (f .before .same-bytes2 .ensures) ∙ f .if2 .left) (sym (g .before .same-bytes3 .ensures) ∙ g .if3 .left) (sym (s .same-bytes4 .ensures) ∙ h .if4 .left) (sym (w .starts-with .ensures) ∙ k .if5 .left) (sym (x .starts-with2 .ensures) ∙ t .if6 .taken))
+
+returns-7 : tie.Need-returns-7
+returns-7 c =
+    let x = c .before in
+    let k = x .before .before in
+    let w = k .before in
+    let h = w .before .before in
+    let s = h .before in
+    let g = s .before .before in
+    let f = g .before .before .before in
+    let e = f .before .before .before in
+    sym (word-none _ (sym (e .before .same-bytes .ensures) ∙ e .if1 .left) (sym (f .before .same-bytes2 .ensures) ∙ f .if2 .left) (sym (g .before .same-bytes3 .ensures) ∙ g .if3 .left) (sym (s .same-bytes4 .ensures) ∙ h .if4 .left) (sym (w .starts-with .ensures) ∙ k .if5 .left) (sym (x .starts-with2 .ensures) ∙ c .if6 .left))
 
 pub word-spec : {M : Type 1} → statement M
 word-spec =
@@ -97,4 +112,8 @@ word-spec =
     (λ c κs. search needs)
     (λ c κs. search needs)
     returns-5
-    returns-6)
+    (λ c. search needs)
+    (λ c κs. search needs)
+    (λ c κs. search needs)
+    returns-6
+    returns-7)

@@ -75,6 +75,7 @@ fn play(s: Session, sheet: &[u8], code: &mut [u8], data: &mut [u8]) -> Session {
 // What a line does to the chip as it stands; one of a sheet, and a bad one, do nothing.
 fn act(
     said: Line,
+    rig: bool,
     text: &[u8],
     s: Session,
     sheet: &[u8],
@@ -87,7 +88,7 @@ fn act(
         Line::Stored(o) => session::off(s, o),
         Line::Store(f, at) => store(s, f, at, part::rest(text, script_line::STORED), code, data),
         Line::PowerOn => power_on(s, &*code, &*data),
-        Line::Bytes => send::line(s, part::rest(text, script_line::SENT), code, data),
+        Line::Bytes => send::line(rig, s, part::rest(text, script_line::SENT), code, data),
         Line::Frame => handed::line(s, part::rest(text, script_line::FRAME), code, data),
         Line::Show => show(s, &*code, &*data),
         Line::Sheet => s,
@@ -112,6 +113,7 @@ fn lent(chip: Chip, f: Flash, room: usize) -> usize
 // A line that names a chip begins a fresh one; any other has the chip's own part of the flashes.
 fn on_chip(
     said: Line,
+    rig: bool,
     text: &[u8],
     s: Session,
     sheet: &[u8],
@@ -124,12 +126,13 @@ fn on_chip(
     let d = s.device;
     let m = lent(d.chip, Flash::Code, code.len());
     let n = lent(d.chip, Flash::Data, data.len());
-    act(said, text, s, sheet, &mut code[0..m], &mut data[0..n])
+    act(said, rig, text, s, sheet, &mut code[0..m], &mut data[0..n])
 }
 
 // A line is run: it adds to the sheet in hand or closes it, and does what it says.
 fn run(
     said: Line,
+    rig: bool,
     text: &[u8],
     b: Between,
     sheet: &mut [u8],
@@ -139,7 +142,7 @@ fn run(
     let before = b.sheet;
     let put = in_hand::after(before, text, sheet);
     let s = b.session;
-    let after = on_chip(said, text, s, in_hand::bytes(put, &*sheet), code, data);
+    let after = on_chip(said, rig, text, s, in_hand::bytes(put, &*sheet), code, data);
     Between {
         session: after,
         sheet: put,
@@ -147,7 +150,14 @@ fn run(
 }
 
 // The lines of a script; the number of the bad one that ended it, or 0.
-fn lines(chip: Chip, text: &[u8], sheet: &mut [u8], code: &mut [u8], data: &mut [u8]) -> usize {
+fn lines(
+    rig: bool,
+    chip: Chip,
+    text: &[u8],
+    sheet: &mut [u8],
+    code: &mut [u8],
+    data: &mut [u8],
+) -> usize {
     let mut b = Between {
         session: session::fresh(chip, code, data),
         sheet: in_hand::empty(),
@@ -171,7 +181,7 @@ fn lines(chip: Chip, text: &[u8], sheet: &mut [u8], code: &mut [u8], data: &mut 
         if is_bad(said) {
             return number;
         }
-        b = run(said, line, b, sheet, code, data);
+        b = run(said, rig, line, b, sheet, code, data);
         at = end + 1;
     }
     0
@@ -182,10 +192,18 @@ const CODE_ROOM: usize = 131072;
 
 const DATA_ROOM: usize = 8192;
 
-// A whole script, on a fresh small chip with the power off and with an empty sheet in hand.
-pub(crate) fn script(text: &[u8]) {
+// A whole script, on a fresh small chip with the power off and with an empty sheet in hand. `rig`: its bytes go by way of the entry over a lent
+// record, and what is written has to be the same.
+pub(crate) fn script(rig: bool, text: &[u8]) {
     let mut sheet = room_for_bytes();
     let mut code = [0u8; CODE_ROOM];
     let mut data = [0u8; DATA_ROOM];
-    bad_line(lines(chip_finder::small(), text, &mut sheet, &mut code, &mut data));
+    bad_line(lines(
+        rig,
+        chip_finder::small(),
+        text,
+        &mut sheet,
+        &mut code,
+        &mut data,
+    ));
 }

@@ -3,12 +3,18 @@
 use crate::session::Session;
 use rules::Call;
 use rules::Note;
+use standin::call::Answered;
 use standin::call::Device;
 use standin::call::byte_call;
+use standin_rig::lending::byte_lent;
 use text_lines::output;
 use text_read::part;
 use text_read::rows;
 use text_told::notes::put_note;
+ghost use mathlib.Core.Path.{_≡_};
+ghost use Rattle.rules.specs.StandIn.{byteCall};
+ghost use Rattle.chip_finder.specs.LentFlashes.{memory};
+ghost use Rattle.standin.specs.Shows.{shows, answeredAs};
 
 // The chip while bytes are sent, and whether it has answered any of them.
 struct Sent {
@@ -61,11 +67,29 @@ pub(crate) fn noted(note: Note) -> bool {
     true
 }
 
+// One received byte, with the record lent to the entry or by value: the promise is the same.
+fn received(
+    lent: bool,
+    d: Device,
+    byte: u8,
+    code: &mut [u8],
+    data: &mut [u8],
+    reply: &mut [u8],
+) -> Answered
+    ensures { λ r. ⌜ r .device .chip ≡ d .chip ⌝ }
+    ensures { λ r. ⌜ answeredAs r (memory (now (code .exit)) (now («data» .exit))) (now (reply .exit)) ≡ byteCall (d .chip) (shows d (memory (now (code .entry)) (now («data» .entry)))) (now (reply .entry)) byte ⌝ }
+{
+    if lent {
+        return byte_lent(d, byte, code, data, reply);
+    }
+    byte_call(d, byte, code, data, reply)
+}
+
 // One byte to the chip; what it answers is written, and its note.
-fn send_byte(s: Sent, byte: u8, code: &mut [u8], data: &mut [u8]) -> Sent {
+fn send_byte(lent: bool, s: Sent, byte: u8, code: &mut [u8], data: &mut [u8]) -> Sent {
     let mut reply = [0u8; 16];
     let d = s.device;
-    let told = byte_call(d, byte, code, data, &mut reply);
+    let told = received(lent, d, byte, code, data, &mut reply);
     let said = told.answer;
     let call = said.call;
     let note = said.note;
@@ -85,14 +109,14 @@ fn send_byte(s: Sent, byte: u8, code: &mut [u8], data: &mut [u8]) -> Sent {
 }
 
 // The bytes of a row, one after the other.
-fn send_row(d: Device, row: &[u8], code: &mut [u8], data: &mut [u8]) -> Sent {
+fn send_row(lent: bool, d: Device, row: &[u8], code: &mut [u8], data: &mut [u8]) -> Sent {
     let mut s = Sent {
         device: d,
         answered: false,
     };
     let count = rows::row_count(row);
     for k in 0..count {
-        s = send_byte(s, rows::row_byte(row, k), code, data);
+        s = send_byte(lent, s, rows::row_byte(row, k), code, data);
     }
     s
 }
@@ -103,15 +127,15 @@ pub(crate) fn end_line(answered: bool) {
     }
 }
 
-// With the power off the line is only written out again.
-pub fn line(s: Session, row: &[u8], code: &mut [u8], data: &mut [u8]) -> Session {
+// With the power off the line is only written out again. `lent`: every byte goes by way of the entry over a lent record.
+pub fn line(lent: bool, s: Session, row: &[u8], code: &mut [u8], data: &mut [u8]) -> Session {
     io::write_all(1, b">");
     echo(row);
     if !s.on {
         return s;
     }
     let d = s.device;
-    let sent = send_row(d, row, code, data);
+    let sent = send_row(lent, d, row, code, data);
     end_line(sent.answered);
     let after = sent.device;
     Session {

@@ -8,11 +8,11 @@ use Rattle.answers.proofs.run.lines.Statement.{statement}
 use Rattle.answers.proofs.run.lines.Tie as tie
 
 abbrev Inv-loop : tie.InvT-loop
-Inv-loop text sheet₀ code₀ data₀ b₀ at₀ number₀ sheet code «data» b at number =
+Inv-loop rig text sheet₀ code₀ data₀ b₀ at₀ number₀ sheet code «data» b at number =
     (length text < 18446744073709551616) × (number ≤ at) × (at ≤ length text) × (length sheet ≡ length sheet₀) × (length code ≡ length code₀) × (length «data» ≡ length data₀)
 
 abbrev μ-loop : tie.MeasureT-loop
-μ-loop text sheet₀ code₀ data₀ b₀ at₀ number₀ sheet code «data» b at number = length text - at
+μ-loop rig text sheet₀ code₀ data₀ b₀ at₀ number₀ sheet code «data» b at number = length text - at
 
 -- the line ends in the text, and so its LF can be counted, and less is left
 add-at : tie.Need-add-at Inv-loop μ-loop

@@ -7,10 +7,10 @@ use Rattle.text_script.proofs.send.send_row.Statement.{statement}
 use Rattle.text_script.proofs.send.send_row.Tie as tie
 
 abbrev Inv-loop : tie.InvT-loop
-Inv-loop row code₀ data₀ s₀ count k₀ code «data» s k = (k ≤ count) × (length code ≡ length code₀) × (length «data» ≡ length data₀)
+Inv-loop lent row code₀ data₀ s₀ count k₀ code «data» s k = (k ≤ count) × (length code ≡ length code₀) × (length «data» ≡ length data₀)
 
 abbrev μ-loop : tie.MeasureT-loop
-μ-loop row code₀ data₀ s₀ count k₀ code «data» s k = count - k
+μ-loop lent row code₀ data₀ s₀ count k₀ code «data» s k = count - k
 
 row-count-requires : tie.Need-row-count-requires Inv-loop μ-loop
 row-count-requires c κs = search needs

@@ -418,9 +418,8 @@ static int on_data(struct device *d, const u8 *frame, struct lent m, u8 *reply)
     return put_pair(reply, 0x06, 0x06);
 }
 
-#ifndef FRAMES
-// One received byte: how many bytes are answered, or -1 to -3 for D1 to D3.
-BYTE_CALL int take(struct device *d, u8 byte, u8 *frame, u8 *code, size code_n, u8 *data, size data_n, u8 *reply, size reply_n)
+// 0, or -1 to -3 for D1 to D3, by the lengths of what is lent.
+static int lent_fault(size code_n, size data_n, size reply_n)
 {
     if (code_n != CODE_SIZE)
         return -1;
@@ -428,6 +427,16 @@ BYTE_CALL int take(struct device *d, u8 byte, u8 *frame, u8 *code, size code_n, 
         return -2;
     if (reply_n < 16)
         return -3;
+    return 0;
+}
+
+#ifndef FRAMES
+// One received byte: how many bytes are answered, or -1 to -3 for D1 to D3.
+BYTE_CALL int take(struct device *d, u8 byte, u8 *frame, u8 *code, size code_n, u8 *data, size data_n, u8 *reply, size reply_n)
+{
+    int refused = lent_fault(code_n, data_n, reply_n);
+    if (refused)
+        return refused;
     if (d->phase == SILENT)
         return 0;
     if (d->phase == MODE) {
@@ -458,12 +467,9 @@ BYTE_CALL int take(struct device *d, u8 byte, u8 *frame, u8 *code, size code_n, 
 // One whole frame of the kind awaited, judged where it lies: how many bytes are answered, -1 to -3 for D1 to D3, or -4 for E1.
 static int hand(struct device *d, const u8 *frame, size n, u8 *code, size code_n, u8 *data, size data_n, u8 *reply, size reply_n)
 {
-    if (code_n != CODE_SIZE)
-        return -1;
-    if (data_n != DATA_SIZE)
-        return -2;
-    if (reply_n < 16)
-        return -3;
+    int refused = lent_fault(code_n, data_n, reply_n);
+    if (refused)
+        return refused;
     if (d->phase == SILENT || d->phase == MODE || d->have != 0)
         return -4;
     if (n < 2 || n != (frame[1] ? frame[1] : 256) + 4u || frame[0] != (d->task == IDLE ? 0x01 : 0x02))

@@ -112,9 +112,7 @@ impl Answers {
     /// The chip's counts and the sheet's verdict come first, then whether the
     /// chip is free.
     fn judge_sheet(&self) -> Result<(), Refusal> {
-        let model = self.chip.model();
-        model.check()?;
-        Sheet::read(self.sheet.bytes(), model)?;
+        Sheet::read_for(self.sheet.bytes(), self.chip.model())?;
         Ok(())
     }
 }

@@ -36,6 +36,11 @@ impl Calls {
         self.model
     }
 
+    /// The sheet in hand.
+    pub fn sheet(&self) -> &[u8] {
+        self.sheet.bytes()
+    }
+
     pub fn player(&self) -> Option<&Player> {
         self.player.as_ref()
     }

@@ -7,7 +7,7 @@ use crate::meaning::{Outcome, meaning};
 use crate::options::IFPR;
 use crate::player::Status;
 use crate::sheet::{MOST_STEPS, Sheet};
-use crate::standin::StandIn;
+use crate::standin::{Phase, StandIn};
 
 /// Plays `count` sheets. The first difference is told with its case number,
 /// counted from 1.
@@ -27,33 +27,36 @@ fn check_case(random: &mut Random) -> Result<(), String> {
     let size = random_size(random);
     let bytes = Plan::random(random, &chip.flash, &chip.options, size).bytes();
     let sheet =
-        Sheet::read(&bytes, chip.model()).map_err(|refusal| format!("refused {refusal:?}"))?;
+        Sheet::read_for(&bytes, chip.model()).map_err(|refusal| format!("refused {refusal:?}"))?;
 
     let entries = random.between(sheet.steps.len(), MOST_STEPS);
     let lent: Vec<u16> = (0..entries).map(|_| random.word()).collect();
 
-    let mut expected_flash = chip.flash.clone();
-    let expected = meaning(&sheet, &mut expected_flash, &chip.options);
+    let (mut expected_flash, mut expected_options) = (chip.flash.clone(), chip.options);
+    let expected = meaning(&sheet, &mut expected_flash, &mut expected_options);
     let mut expected_sums = lent.clone();
     expected_sums[..expected.sums.len()].copy_from_slice(&expected.sums);
 
-    let options_before = chip.options;
     let mut sums = lent;
     let played =
         play(&bytes, &mut chip, &mut sums).map_err(|refusal| format!("refused {refusal}"))?;
 
     let report = played.report;
-    let Outcome { status, steps, frames, pieces, .. } = expected;
+    let Outcome { status, steps, frames, pieces, silent, .. } = expected;
     must_equal("status", Status::Byte(status), report.status)?;
     must_equal("steps", steps, report.steps)?;
     must_equal("frames", frames, report.frames)?;
     must_equal("pieces", pieces, report.pieces)?;
     must_equal("sums", expected_sums, sums)?;
     must(expected_flash == chip.flash, "the flashes differ")?;
-    must_equal("options", options_before, chip.options)?;
+    must_equal("options", expected_options, chip.options)?;
     let told: usize = played.steps.iter().map(|step| step.frames).sum();
     must_equal("frames of all lines", frames, told)?;
-    must(chip.waits_for_command(), "the chip does not wait for a command after the play")
+    if silent {
+        must(chip.phase() == Phase::Silent, "the chip is not Silent after the play")
+    } else {
+        must(chip.waits_for_command(), "the chip does not wait for a command after the play")
+    }
 }
 
 fn prepared_chip(random: &mut Random) -> StandIn {

@@ -1,6 +1,7 @@
 //! Frames on the line: built, received byte by byte, and read as replies.
 
 use crate::chip::{PAGE, Span};
+use crate::sheet::Lock;
 
 /// First byte of a command frame.
 pub const COMMAND_START: u8 = 0x01;
@@ -13,6 +14,10 @@ pub const MORE: u8 = 0x17;
 
 /// The longest frame: start, LEN, 256 bytes, SUM, end.
 pub const LONGEST: usize = 260;
+
+/// Blank Check's target areas, TAR.
+pub const FLASH_ALONE: u8 = 0x00;
+pub const FLASH_AND_OPTIONS: u8 = 0x01;
 
 pub mod code {
     pub const RESET: u8 = 0x00;
@@ -57,6 +62,21 @@ pub fn pair_command(code: u8, span: Span) -> Vec<u8> {
     let mut information = address_bytes(span.first_address()).to_vec();
     information.extend(address_bytes(span.last_address()));
     command(code, &information)
+}
+
+/// A Blank Check of flash alone.
+pub fn blank_command(span: Span) -> Vec<u8> {
+    blank_check(span.first_address(), span.last_address(), FLASH_ALONE)
+}
+
+pub fn blank_check(sad: u32, ead: u32, tar: u8) -> Vec<u8> {
+    let information = [&address_bytes(sad)[..], &address_bytes(ead), &[tar]].concat();
+    command(code::BLANK_CHECK, &information)
+}
+
+/// A Security Set; its reserved byte is 00h.
+pub fn lock_command(lock: Lock) -> Vec<u8> {
+    command(code::SECURITY_SET, &[lock.sf1, lock.sf2, 0x00])
 }
 
 pub fn erase_command(block: Span) -> Vec<u8> {

@@ -2,6 +2,7 @@
 
 mod blanks;
 mod counts;
+mod forms;
 mod hexes;
 pub mod material;
 mod plays;
@@ -46,12 +47,15 @@ impl Subject {
 pub enum FileSubject {
     /// Intel HEX.
     Hex,
+    /// Sheets to be moved to the other form.
+    Form,
 }
 
 impl FileSubject {
     pub fn from_name(name: &str) -> Option<FileSubject> {
         match name {
             "hex" => Some(FileSubject::Hex),
+            "form" => Some(FileSubject::Form),
             _ => None,
         }
     }
@@ -62,11 +66,10 @@ pub fn generate_files(subject: FileSubject, seed: u64, count: u64, dir: &Path) -
     fs::create_dir_all(dir)?;
     for case in 0..count {
         let random = Random::for_case(seed, case);
-        let number = case + 1;
+        let path = |ending: &str| dir.join(format!("{:04}.{ending}", case + 1));
         match subject {
-            FileSubject::Hex => {
-                fs::write(dir.join(format!("{number:04}.hex")), hexes::file(random))?
-            }
+            FileSubject::Hex => fs::write(path("hex"), hexes::file(random))?,
+            FileSubject::Form => fs::write(path("sheet"), forms::file(random))?,
         }
     }
     Ok(())

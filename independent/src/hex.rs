@@ -3,7 +3,7 @@
 use std::fmt;
 
 use crate::chip::{Area, BLANK, Model, Span};
-use crate::sheet::{Kind, MOST_BYTES, MOST_STEPS, Sheet, Step};
+use crate::sheet::{Form, MOST_STEPS, Sheet, Step};
 
 /// The most bytes of a text.
 pub const MOST_TEXT: usize = 1_048_576;
@@ -218,15 +218,18 @@ impl Image {
         let blocks = self.blocks();
         let mut steps = Vec::new();
         for (span, bytes) in &blocks {
-            steps.push(Step { kind: Kind::Erase, span: *span, body: &[] });
-            steps.push(Step { kind: Kind::Write, span: *span, body: bytes });
-            steps.push(Step { kind: Kind::Verify, span: *span, body: bytes });
+            steps.extend([
+                Step::Erase(*span),
+                Step::Write(*span, bytes),
+                Step::Verify(*span, bytes),
+            ]);
         }
         if steps.len() > MOST_STEPS {
             return Err(Refusal::TooManySteps);
         }
-        let sheet = Sheet { steps }.bytes();
-        if sheet.len() > MOST_BYTES {
+        let form = Form::One;
+        let sheet = Sheet { form, model: MODEL, steps }.bytes();
+        if sheet.len() > form.most_bytes() {
             return Err(Refusal::SheetTooLong);
         }
         Ok(sheet)

@@ -46,7 +46,7 @@ pub fn play(bytes: &[u8], chip: &mut StandIn, sums: &mut [u16]) -> Result<Played
     let mut player = Player::new();
     let model = chip.model();
     let mut turn = player.call(model, bytes, &[], frames::LONGEST, sums)?;
-    let sheet = Sheet::read(bytes, model)?;
+    let sheet = Sheet::read_for(bytes, model)?;
     let mut steps: Vec<StepLine> = Vec::new();
     let mut frames_of_step = 0;
     loop {
@@ -65,7 +65,7 @@ pub fn play(bytes: &[u8], chip: &mut StandIn, sums: &mut [u16]) -> Result<Played
         } else {
             continue;
         };
-        let kind = sheet.steps[number - 1].kind;
+        let kind = sheet.steps[number - 1].kind();
         steps.push(StepLine { number, kind, status, frames: frames_of_step, sum });
         frames_of_step = 0;
     }

@@ -31,7 +31,7 @@ use hex::MOST_TEXT;
 use joined::Played;
 use lines::{MOST_INPUT, run_lines};
 use player::Refusal;
-use sheet::{MOST_BYTES, MOST_STEPS};
+use sheet::{Form, Jn, MOST_STEPS, move_to};
 use standin::StandIn;
 
 const USAGE: &str = "\
@@ -39,10 +39,11 @@ usage: sheetplay answers
        sheetplay frames
        sheetplay play
        sheetplay hex
+       sheetplay form up|down
        sheetplay meaning-check SEED COUNT
        sheetplay generate scripts|plays|sheets SEED COUNT
-       sheetplay generate-files hex SEED COUNT DIR
-       sheetplay hex-results DIR
+       sheetplay generate-files hex|form SEED COUNT DIR
+       sheetplay hex-results|form-results DIR
 ";
 
 /// Nothing was done: wrong usage, or input that is too long.
@@ -69,8 +70,10 @@ fn run(words: &[&str]) -> io::Result<Option<ExitCode>> {
     let code = match words {
         ["answers"] => tell(run_lines(&read_input(MOST_INPUT)?, &mut Answers::new()))?,
         ["frames"] => tell(run_lines(&read_input(MOST_INPUT)?, &mut Calls::new()))?,
-        ["play"] => tell(play(&read_input(MOST_BYTES)?))?,
+        ["play"] => tell(play(&read_input(Form::MOST_BYTES_OF_ANY)?))?,
         ["hex"] => hex(&read_input(MOST_TEXT)?)?,
+        ["form", "up"] => form(Form::Two)?,
+        ["form", "down"] => form(Form::One)?,
         ["meaning-check", seed, count] => {
             let (Ok(seed), Ok(count)) = (seed.parse(), count.parse()) else {
                 return Ok(None);
@@ -95,6 +98,7 @@ fn run(words: &[&str]) -> io::Result<Option<ExitCode>> {
             ExitCode::SUCCESS
         }
         ["hex-results", dir] => tell(results::of_hex(Path::new(dir))?)?,
+        ["form-results", dir] => tell(results::of_form(Path::new(dir))?)?,
         _ => return Ok(None),
     };
     Ok(Some(code))
@@ -126,6 +130,18 @@ fn hex(text: &[u8]) -> io::Result<ExitCode> {
         Ok(sheet) => tell(sheet),
         Err(refusal) => {
             eprintln!("{refusal}");
+            Ok(ExitCode::FAILURE)
+        }
+    }
+}
+
+/// The `form` program: the sheet in the form asked for, or one line on standard
+/// error.
+fn form(form: Form) -> io::Result<ExitCode> {
+    match move_to(&read_input(Form::MOST_BYTES_OF_ANY)?, form) {
+        Ok(sheet) => tell(sheet),
+        Err(Jn(number)) => {
+            eprintln!("form: refused J{number}");
             Ok(ExitCode::FAILURE)
         }
     }

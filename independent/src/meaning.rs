@@ -2,11 +2,11 @@
 //! frames on a line.
 
 use crate::chip::{BLANK, Flash, PAGE, Span};
-use crate::options::{BTPR, Options, SEPR, WRPR};
-use crate::sheet::{Kind, Sheet, Step};
+use crate::options::{BTPR, IDEN, IFPR, Options, SEPR, WRPR};
+use crate::sheet::{Lock, Sheet, Step};
 use crate::status;
 
-/// What a play of a sheet comes to, besides the flash.
+/// What a play of a sheet comes to, besides flash and options.
 #[derive(Debug, PartialEq, Eq)]
 pub struct Outcome {
     pub status: u8,
@@ -15,6 +15,8 @@ pub struct Outcome {
     pub pieces: usize,
     /// One entry per finished step.
     pub sums: Vec<u16>,
+    /// Whether the chip is Silent at the end.
+    pub silent: bool,
 }
 
 /// What one step comes to.
@@ -25,31 +27,43 @@ struct StepOutcome {
     sum: u16,
 }
 
-/// Runs the steps in order up to the first that fails.
-pub fn meaning(sheet: &Sheet, flash: &mut Flash, options: &Options) -> Outcome {
-    let mut frames = 0;
-    let mut sums = Vec::new();
+/// Runs the steps in order up to the first that fails, on a chip that is not
+/// Silent.
+pub fn meaning(sheet: &Sheet, flash: &mut Flash, options: &mut Options) -> Outcome {
+    let mut outcome = Outcome {
+        status: status::ACK,
+        steps: 0,
+        frames: 0,
+        pieces: 0,
+        sums: Vec::new(),
+        silent: false,
+    };
     for step in &sheet.steps {
-        let done = match step.kind {
-            Kind::Erase => erase(step, flash, options),
-            Kind::Write => write(step, flash, options),
-            Kind::Verify => verify(step, flash),
-            Kind::Sum => sum(step, flash),
+        let done = match *step {
+            Step::Erase(span) => erase(span, flash, options),
+            Step::Write(span, body) => write(span, body, flash, options),
+            Step::Verify(span, body) => verify(span, body, flash),
+            Step::Sum(span) => sum(span, flash),
+            Step::Blank(span) => blank(span, flash),
+            Step::Lock(flags) => lock(flags, options),
         };
-        frames += done.frames;
+        outcome.frames += done.frames;
         if done.status != status::ACK {
-            let steps = sums.len();
-            return Outcome { status: done.status, steps, frames, pieces: done.pieces, sums };
+            outcome.status = done.status;
+            outcome.pieces = done.pieces;
+            break;
         }
-        sums.push(done.sum);
+        outcome.steps += 1;
+        outcome.sums.push(done.sum);
     }
-    Outcome { status: status::ACK, steps: sums.len(), frames, pieces: 0, sums }
+    outcome.silent = options.sf2 & IFPR == 0;
+    outcome
 }
 
-fn erase(step: &Step, flash: &mut Flash, options: &Options) -> StepOutcome {
-    let blocks = step.span.blocks();
+fn erase(span: Span, flash: &mut Flash, options: &Options) -> StepOutcome {
+    let blocks = span.blocks();
     for index in 0..blocks {
-        let block = step.span.block(index);
+        let block = span.block(index);
         if options.sf1 & SEPR == 0 || boot_protected(block, options) {
             return StepOutcome {
                 status: status::PROTECTED,
@@ -63,10 +77,10 @@ fn erase(step: &Step, flash: &mut Flash, options: &Options) -> StepOutcome {
     StepOutcome { status: status::ACK, frames: blocks, pieces: 0, sum: 0 }
 }
 
-fn write(step: &Step, flash: &mut Flash, options: &Options) -> StepOutcome {
-    let pages = step.span.pages();
+fn write(span: Span, body: &[u8], flash: &mut Flash, options: &Options) -> StepOutcome {
+    let pages = span.pages();
     for number in 1..=pages {
-        let page = step.span.page(number - 1);
+        let page = span.page(number - 1);
         let failure = if options.sf1 & WRPR == 0 || boot_protected(page, options) {
             Some(status::PROTECTED)
         } else if flash.part(page).iter().any(|&byte| byte != BLANK) {
@@ -79,22 +93,43 @@ fn write(step: &Step, flash: &mut Flash, options: &Options) -> StepOutcome {
             let pieces = if number == pages && pages >= 2 { pages - 2 } else { number - 1 };
             return StepOutcome { status, frames, pieces, sum: 0 };
         }
-        let body = &step.body[(number - 1) * PAGE..number * PAGE];
-        flash.part_mut(page).copy_from_slice(body);
+        let bytes = &body[(number - 1) * PAGE..number * PAGE];
+        flash.part_mut(page).copy_from_slice(bytes);
     }
     StepOutcome { status: status::ACK, frames: 1 + pages, pieces: 0, sum: 0 }
 }
 
-fn verify(step: &Step, flash: &Flash) -> StepOutcome {
-    let same = flash.part(step.span) == step.body;
+fn verify(span: Span, body: &[u8], flash: &Flash) -> StepOutcome {
+    let same = flash.part(span) == body;
     let status = if same { status::ACK } else { status::VERIFY };
-    StepOutcome { status, frames: 1 + step.span.pages(), pieces: 0, sum: 0 }
+    StepOutcome { status, frames: 1 + span.pages(), pieces: 0, sum: 0 }
 }
 
-fn sum(step: &Step, flash: &Flash) -> StepOutcome {
-    let total: u32 = flash.part(step.span).iter().map(|&byte| u32::from(byte)).sum();
+fn sum(span: Span, flash: &Flash) -> StepOutcome {
+    let total: u32 = flash.part(span).iter().map(|&byte| u32::from(byte)).sum();
     let sum = (0x1_0000 - total % 0x1_0000) % 0x1_0000;
     StepOutcome { status: status::ACK, frames: 1, pieces: 0, sum: sum as u16 }
+}
+
+fn blank(span: Span, flash: &Flash) -> StepOutcome {
+    let dirty = flash.part(span).iter().any(|&byte| byte != BLANK);
+    let status = if dirty { status::NOT_BLANK } else { status::ACK };
+    StepOutcome { status, frames: 1, pieces: 0, sum: 0 }
+}
+
+/// Clears the flags that are sent as 0; none is set.
+fn lock(flags: Lock, options: &mut Options) -> StepOutcome {
+    for flag in [BTPR, SEPR, WRPR] {
+        if flags.sf1 & flag == 0 {
+            options.sf1 &= !flag;
+        }
+    }
+    for flag in [IDEN, IFPR] {
+        if flags.sf2 & flag == 0 {
+            options.sf2 &= !flag;
+        }
+    }
+    StepOutcome { status: status::ACK, frames: 1, pieces: 0, sum: 0 }
 }
 
 /// BTPR 0 protects code blocks 0 to 7, the addresses below 04000h.

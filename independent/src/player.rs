@@ -2,9 +2,9 @@
 
 use std::fmt;
 
-use crate::chip::{D0, Model, PAGE};
+use crate::chip::{D0, Model, PAGE, Span};
 use crate::frames::{self, code};
-use crate::sheet::{Jn, Kind, Sheet, Step};
+use crate::sheet::{Jn, Kind, Sheet, Step, Unfit};
 use crate::status;
 
 #[derive(Clone, Copy, Debug, PartialEq, Eq)]
@@ -35,6 +35,15 @@ impl From<D0> for Refusal {
 impl From<Jn> for Refusal {
     fn from(Jn(number): Jn) -> Refusal {
         Refusal::J(number)
+    }
+}
+
+impl From<Unfit> for Refusal {
+    fn from(unfit: Unfit) -> Refusal {
+        match unfit {
+            Unfit::Chip(refusal) => refusal.into(),
+            Unfit::Sheet(refusal) => refusal.into(),
+        }
     }
 }
 
@@ -86,15 +95,21 @@ pub enum Awaited {
     Page(usize),
     /// A sum.
     Sum,
+    /// A blank check.
+    Blank,
+    /// A lock.
+    Lock,
 }
 
 impl Awaited {
     /// Whether a step of the right kind has this block or page.
     fn is_in(self, step: &Step) -> bool {
-        match self {
-            Awaited::Block(block) => block < step.span.blocks(),
-            Awaited::Page(page) => page < step.span.pages(),
-            Awaited::Opening | Awaited::Sum => true,
+        match (self, step) {
+            (Awaited::Block(block), Step::Erase(span)) => block < span.blocks(),
+            (Awaited::Page(page), Step::Write(span, _) | Step::Verify(span, _)) => {
+                page < span.pages()
+            }
+            _ => true,
         }
     }
 
@@ -161,8 +176,7 @@ impl Player {
         room: usize,
         sums: &mut [u16],
     ) -> Result<Turn, Refusal> {
-        model.check()?;
-        let sheet = Sheet::read(sheet, model)?;
+        let sheet = Sheet::read_for(sheet, model)?;
         if sums.len() < sheet.steps.len() {
             return Err(Refusal::J(10));
         }
@@ -177,7 +191,7 @@ impl Player {
                 let step = sheet
                     .steps
                     .get(self.step)
-                    .filter(|step| step.kind == kind && awaited.is_in(step))
+                    .filter(|step| step.kind() == kind && awaited.is_in(step))
                     .ok_or(Refusal::P2)?;
                 Ok(self.hear(&sheet, step, awaited, reply, sums))
             }
@@ -194,7 +208,7 @@ impl Player {
     }
 
     fn send(&mut self, step: &Step, awaited: Awaited, frame: Vec<u8>) -> Turn {
-        self.stage = Stage::Awaiting(step.kind, awaited);
+        self.stage = Stage::Awaiting(step.kind(), awaited);
         self.frames += 1;
         Turn::Frame(frame)
     }
@@ -204,28 +218,25 @@ impl Player {
         let Some(step) = sheet.steps.get(self.step) else {
             return self.end(Status::DONE);
         };
-        match step.kind {
-            Kind::Erase => self.send_block(step, 0),
-            Kind::Write => self.send_opening(step, code::PROGRAM),
-            Kind::Verify => self.send_opening(step, code::VERIFY),
-            Kind::Sum => {
-                let frame = frames::pair_command(code::CHECKSUM, step.span);
-                self.send(step, Awaited::Sum, frame)
-            }
-        }
+        let (awaited, frame) = match *step {
+            Step::Erase(span) => return self.send_block(step, span, 0),
+            Step::Write(span, _) => (Awaited::Opening, frames::pair_command(code::PROGRAM, span)),
+            Step::Verify(span, _) => (Awaited::Opening, frames::pair_command(code::VERIFY, span)),
+            Step::Sum(span) => (Awaited::Sum, frames::pair_command(code::CHECKSUM, span)),
+            Step::Blank(span) => (Awaited::Blank, frames::blank_command(span)),
+            Step::Lock(lock) => (Awaited::Lock, frames::lock_command(lock)),
+        };
+        self.send(step, awaited, frame)
     }
 
-    fn send_block(&mut self, step: &Step, block: usize) -> Turn {
-        self.send(step, Awaited::Block(block), frames::erase_command(step.span.block(block)))
-    }
-
-    fn send_opening(&mut self, step: &Step, code: u8) -> Turn {
-        self.send(step, Awaited::Opening, frames::pair_command(code, step.span))
+    fn send_block(&mut self, step: &Step, span: Span, block: usize) -> Turn {
+        self.send(step, Awaited::Block(block), frames::erase_command(span.block(block)))
     }
 
     fn send_page(&mut self, step: &Step, page: usize) -> Turn {
-        let bytes = &step.body[page * PAGE..(page + 1) * PAGE];
-        let last = page + 1 == step.span.pages();
+        let body = step.body();
+        let bytes = &body[page * PAGE..(page + 1) * PAGE];
+        let last = (page + 1) * PAGE == body.len();
         self.send(step, Awaited::Page(page), frames::page_frame(bytes, last))
     }
 
@@ -238,22 +249,22 @@ impl Player {
         reply: &[u8],
         sums: &mut [u16],
     ) -> Turn {
-        let sum = match read_reply(awaited, reply) {
+        let sum = match read_reply(step, awaited, reply) {
             Ok(sum) => sum,
             Err(status) => {
-                self.pieces = awaited.pieces_before(step.kind);
+                self.pieces = awaited.pieces_before(step.kind());
                 return self.end(status);
             }
         };
-        match awaited {
-            Awaited::Block(block) if block + 1 < step.span.blocks() => {
-                return self.send_block(step, block + 1);
+        match (awaited, step) {
+            (Awaited::Block(block), Step::Erase(span)) if block + 1 < span.blocks() => {
+                return self.send_block(step, *span, block + 1);
             }
-            Awaited::Opening => return self.send_page(step, 0),
-            Awaited::Page(page) if page + 1 < step.span.pages() => {
+            (Awaited::Opening, _) => return self.send_page(step, 0),
+            (Awaited::Page(page), _) if (page + 1) * PAGE < step.body().len() => {
                 return self.send_page(step, page + 1);
             }
-            Awaited::Block(_) | Awaited::Page(_) | Awaited::Sum => {}
+            _ => {}
         }
         sums[self.step] = sum;
         self.step += 1;
@@ -263,9 +274,15 @@ impl Player {
 
 /// The sum told by a good reply, 0 where no sum is due; or the status that
 /// stops the play.
-fn read_reply(awaited: Awaited, reply: &[u8]) -> Result<u16, Status> {
+fn read_reply(step: &Step, awaited: Awaited, reply: &[u8]) -> Result<u16, Status> {
+    if let Step::Lock(lock) = step
+        && lock.clears_ifpr()
+    {
+        // The chip is shut: exactly nothing is due.
+        return if reply.is_empty() { Ok(0) } else { Err(Status::L1) };
+    }
     match awaited {
-        Awaited::Block(_) | Awaited::Opening => {
+        Awaited::Block(_) | Awaited::Opening | Awaited::Blank | Awaited::Lock => {
             let body = frames::read_answer(reply, 1).ok_or(Status::L1)?;
             go_on_at_ack(body[0])?;
             Ok(0)

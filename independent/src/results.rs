@@ -6,6 +6,7 @@ use std::path::{Path, PathBuf};
 
 use crate::hex;
 use crate::lines::byte_line;
+use crate::sheet::{Form, Jn, move_to};
 
 /// The files of a directory with this ending, in name order.
 fn files(dir: &Path, ending: &str) -> io::Result<Vec<PathBuf>> {
@@ -43,6 +44,20 @@ pub fn of_hex(dir: &Path) -> io::Result<String> {
             hex::sheet_of(&input).map_err(|refusal| refusal.to_string())
         };
         text.push_str(&format!("{} {}", name(&path), sheet_or_refusal(result)));
+    }
+    Ok(text)
+}
+
+/// Of every sheet both moves, behind its name.
+pub fn of_form(dir: &Path) -> io::Result<String> {
+    let mut text = String::new();
+    for path in files(dir, "sheet")? {
+        let sheet = fs::read(&path)?;
+        for (word, form) in [("up", Form::Two), ("down", Form::One)] {
+            let result =
+                move_to(&sheet, form).map_err(|Jn(number)| format!("form: refused J{number}"));
+            text.push_str(&format!("{} {word} {}", name(&path), sheet_or_refusal(result)));
+        }
     }
     Ok(text)
 }

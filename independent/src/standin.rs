@@ -341,8 +341,8 @@ impl StandIn {
     fn check_blank(&self, information: &[u8]) -> Result<Vec<u8>, Fault> {
         let span = self.pair_in(information)?;
         let with_options = match information[6] {
-            0x00 => false,
-            0x01 => true,
+            frames::FLASH_ALONE => false,
+            frames::FLASH_AND_OPTIONS => true,
             _ => return Err(Fault::from(status::PARAMETER)),
         };
         if let Some((block, page)) = self.flash.first_not_blank(span) {

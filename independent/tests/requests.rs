@@ -669,3 +669,294 @@ mod m109_the_whole_frame_engine {
         assert_eq!(answers(&as_bytes), due);
     }
 }
+
+mod m106_sheet_form_2 {
+    use super::*;
+
+    /// An entry without its offset: kind, SAD, EAD.
+    type Entry = (u8, [u8; 3], [u8; 3]);
+
+    const SUM: Entry = (4, [0x00, 0x10, 0x0F], [0xFF, 0x10, 0x0F]);
+    const BLANK: Entry = (5, [0x00, 0x10, 0x0F], [0xFF, 0x10, 0x0F]);
+    const LOCK: Entry = (6, [0xFF, 0xFF, 0x00], [0x00; 3]);
+    const SHUT: Entry = (6, [0xFF, 0xFB, 0x00], [0x00; 3]);
+
+    fn form_2(chip: u8, entries: &[Entry]) -> Vec<u8> {
+        let mut sheet = vec![0xFE, 0x02, chip, 0, entries.len() as u8, 0];
+        for (kind, sad, ead) in entries {
+            sheet.push(*kind);
+            sheet.extend(sad);
+            sheet.extend(ead);
+            sheet.push(0);
+            sheet.extend((6 + 12 * entries.len() as u32).to_le_bytes());
+        }
+        sheet
+    }
+
+    /// Trial 16's sheet in either form.
+    fn sheet_16(form: u8) -> Vec<u8> {
+        let (head, first) = match form {
+            1 => (vec![3, 0], 38u32),
+            _ => (vec![0xFE, 2, 1, 0, 3, 0], 42),
+        };
+        let mut sheet = head;
+        for (kind, offset) in [(1, first), (2, first), (4, first + 256)] {
+            sheet.extend([kind, 0x00, 0x10, 0x0F, 0xFF, 0x10, 0x0F, 0x00]);
+            sheet.extend(offset.to_le_bytes());
+        }
+        sheet.extend([0xA5; 256]);
+        sheet
+    }
+
+    fn play(sheet: &[u8]) -> String {
+        run(&["play"], sheet)
+    }
+
+    #[test]
+    fn trial_16_in_form_2() {
+        assert_eq!(sheet_16(2).len(), 298);
+        assert_eq!(play(&sheet_16(2)), play(&sheet_16(1)));
+        assert!(
+            play(&sheet_16(2)).ends_with("3 sum 06 1 5B00\nend 06 steps 3 frames 4 pieces 0\n")
+        );
+    }
+
+    #[test]
+    fn head() {
+        let heading = "step kind status frames sum\n";
+        let empty = [0xFE, 2, 1, 0, 0, 0];
+        assert_eq!(play(&empty), format!("{heading}end 06 steps 0 frames 0 pieces 0\n"));
+        assert_eq!(play(&empty[..5]), "refused J1\n");
+        assert_eq!(play(&empty[..2]), "refused J1\n");
+        let long = |length: usize| [&empty[..], &vec![0; length - 6]].concat();
+        assert_eq!(play(&long(65_540)), "refused J9\n");
+        assert_eq!(play(&long(65_541)), "refused J1\n");
+        assert_eq!(play(&[0xFE, 2, 3, 9, 65, 0]), "refused J2\n");
+        assert_eq!(play(&[0xFE, 2, 3, 0, 1, 0]), "refused J11\n");
+        assert_eq!(play(&[0xFE, 2, 0, 0, 0, 0]), "refused J11\n");
+        assert_eq!(play(&[0xFE, 2, 1, 1, 0, 0]), "refused J11\n");
+        assert_eq!(play(&[0xFE, 2, 1, 0, 1, 0]), "refused J3\n");
+        // Another mark is a count of form 1.
+        assert_eq!(play(&[0xFE, 3, 1, 0, 0, 0]), "refused J2\n");
+    }
+
+    #[test]
+    fn the_chip_named() {
+        assert_eq!(play(&form_2(2, &[SUM])), "refused J14\n");
+        // The sheet's own refusals come first; J10 comes after.
+        assert_eq!(play(&form_2(2, &[(4, [0, 0, 2], [0xFF, 7, 2])])), "refused J6\n");
+        let last_of_large = (4, [0x00, 0xF8, 0x01], [0xFF, 0xFF, 0x01]);
+        assert_eq!(play(&form_2(1, &[last_of_large])), "refused J6\n");
+        let line = sheet_line(&form_2(2, &[last_of_large]));
+        assert_eq!(answers(&format!("{line}play\n")), "refused J14\n");
+        let told = on_large("", &format!("{line}play\n"));
+        // 2,048 bytes FFh.
+        assert!(told.ends_with("1 sum 06 1 0800\nend 06 steps 1 frames 1 pieces 0\n"), "{told}");
+        let form_1 = sheet_line(&one_step(4, 0xF1000, 0xF10FF));
+        assert_eq!(on_large("", &format!("{form_1}play\n")), "refused J14\n");
+        let frames = |script: &str| run(&["frames"], script.as_bytes());
+        assert_eq!(frames(&format!("{form_1}chip large\nsums 0\nroom 0\ngo\n")), "refused J14\n");
+        assert_eq!(
+            frames(&format!("{form_1}chip large\nsums 0\nroom 0\nchip small\ngo\n")),
+            "refused J10\n"
+        );
+    }
+
+    #[test]
+    fn entries() {
+        // Kinds 5 and 6 are none of form 1.
+        assert_eq!(play(&one_step(5, 0xF1000, 0xF10FF)), "refused J4\n");
+        assert_eq!(play(&one_step(6, 0x00FFFF, 0)), "refused J4\n");
+        assert_eq!(play(&form_2(1, &[(7, LOCK.1, LOCK.2)])), "refused J4\n");
+        assert_eq!(play(&form_2(1, &[(5, [1, 0x10, 0x0F], BLANK.2)])), "refused J6\n");
+        for filler in 3..7 {
+            let mut sheet = form_2(1, &[LOCK]);
+            sheet[6 + filler] = 1;
+            assert_eq!(play(&sheet), "refused J12\n");
+            // The zero byte comes before it, the offset after it.
+            sheet[6 + 8] += 1;
+            assert_eq!(play(&sheet), "refused J12\n");
+            sheet[6 + 7] = 1;
+            assert_eq!(play(&sheet), "refused J5\n");
+        }
+        assert_eq!(play(&form_2(1, &[SHUT, SUM])), "refused J12\n");
+        assert_eq!(play(&form_2(1, &[SHUT, SHUT])), "refused J12\n");
+        let mut sheet = form_2(1, &[LOCK]);
+        sheet[6 + 8] += 1;
+        assert_eq!(play(&sheet), "refused J7\n");
+    }
+
+    #[test]
+    fn a_lock_that_shuts_the_chip() {
+        let line = sheet_line(&form_2(1, &[BLANK, (6, [0xEF, 0xFA, 0], [0; 3])]));
+        let text = answers(&format!("{BRING_UP}{line}play\n?\nplay\n!\n?\n"));
+        let due = "\
+1 blank 06 1 0000
+2 lock 06 1 0000
+end 06 steps 2 frames 2 pieces 0
+phase Silent
+options EF FA FFFF FFFF
+refused busy
+!
+phase Silent
+options EF FA FFFF FFFF
+";
+        assert!(text.ends_with(due), "{text}");
+    }
+
+    #[test]
+    fn a_lock_that_does_not() {
+        // WRPR 0 and IDEN 0: the write after it stops, at the power-on an ID
+        // is asked for.
+        let mut sheet = vec![0xFE, 2, 1, 0, 2, 0];
+        sheet.extend([6, 0xEF, 0xFE, 0, 0, 0, 0, 0, 30, 0, 0, 0]);
+        sheet.extend([2, 0x00, 0x10, 0x0F, 0xFF, 0x10, 0x0F, 0, 30, 0, 0, 0]);
+        sheet.extend([0xA5; 256]);
+        let text = answers(&format!("{BRING_UP}{}play\n{BRING_UP}?\n", sheet_line(&sheet)));
+        let due = "1 lock 06 1 0000\n2 write 10 2 0000\nend 10 steps 1 frames 3 pieces 0\n";
+        assert!(text.contains(due), "{text}");
+        assert!(text.ends_with("phase Ident\noptions EF FE FFFF FFFF\n"), "{text}");
+    }
+
+    #[test]
+    fn a_blank_check_stops_and_has_no_note() {
+        let line = sheet_line(&form_2(1, &[BLANK, SUM]));
+        let text = answers(&format!("data F10FF 00\n{BRING_UP}{line}play\n"));
+        let due = "sum\n1 blank 1B 1 0000\nend 1B steps 0 frames 1 pieces 0\n";
+        assert!(text.ends_with(due), "{text}");
+        // Of the flash alone: the options do not count.
+        let text = answers(&format!("options EF FF FFFF FFFF\n{BRING_UP}{line}play\n"));
+        assert!(text.contains("1 blank 06 1 0000\n"), "{text}");
+    }
+
+    #[test]
+    fn the_player() {
+        let frames = |script: &str| run(&["frames"], script.as_bytes());
+        let blank = "> 01 08 32 00 10 0F FF 10 0F 00 89 03\n";
+        let shut = "> 01 04 A0 FF FB 00 62 03\n";
+        let lock = "> 01 04 A0 FF FF 00 5E 03\n";
+        let ack = "< 02 01 06 F9 03\n";
+        let end = |status: &str, steps: usize, frames: usize| {
+            let sums = " 0000".repeat(2);
+            format!("end {status} steps {steps} frames {frames} pieces 0\nsums{sums}\n")
+        };
+        let play = |entries: &[Entry], replies: &str| {
+            frames(&format!("sums 2\n{}go\n{replies}", sheet_line(&form_2(1, entries))))
+        };
+        assert_eq!(
+            play(&[BLANK, SHUT], &format!("{ack}<\n")),
+            format!("{blank}{shut}{}", end("06", 2, 2))
+        );
+        // Nothing is due, and any byte at all is L1; to another lock a frame.
+        for reply in [ack, "< 00\n", "< 02 01 10 EF 03\n"] {
+            assert_eq!(play(&[SHUT], reply), format!("{shut}{}", end("L1", 0, 1)));
+        }
+        assert_eq!(play(&[LOCK], "<\n"), format!("{lock}{}", end("L1", 0, 1)));
+        assert_eq!(play(&[LOCK], ack), format!("{lock}{}", end("06", 1, 1)));
+        assert_eq!(play(&[LOCK], "< 02 01 10 EF 03\n"), format!("{lock}{}", end("10", 0, 1)));
+        assert_eq!(play(&[BLANK], "< 02 01 1B E4 03\n"), format!("{blank}{}", end("1B", 0, 1)));
+        assert_eq!(play(&[BLANK], "<\n"), format!("{blank}{}", end("L1", 0, 1)));
+    }
+
+    #[test]
+    fn kinds_are_told_apart() {
+        let frames = |script: &str| run(&["frames"], script.as_bytes());
+        let kinds = [SUM, BLANK, LOCK, SHUT];
+        for begun in kinds {
+            for given in kinds {
+                let (begun_line, given_line) =
+                    (sheet_line(&form_2(1, &[begun])), sheet_line(&form_2(1, &[given])));
+                let text = frames(&format!("{begun_line}go\n{given_line}< 02 01 06 F9 03\n"));
+                assert_eq!(text.ends_with("refused P2\n"), begun.0 != given.0, "{text}");
+            }
+        }
+        // The form is no part of a step.
+        let form_1 = sheet_line(&sheet_16(1));
+        let form_2 = sheet_line(&sheet_16(2));
+        let text = frames(&format!("{form_1}go\n{form_2}< 02 01 06 F9 03\n"));
+        assert!(text.ends_with("> 01 07 40 00 10 0F FF 10 0F 7C 03\n"), "{text}");
+    }
+
+    #[test]
+    fn moves() {
+        let moved = |way: &str, sheet: &[u8]| ended(&["form", way], sheet);
+        let well = |output: &[u8]| Ended {
+            output: output.to_vec(),
+            errors: String::new(),
+            status: Some(0),
+        };
+        let refused = |number: usize| Ended {
+            output: Vec::new(),
+            errors: format!("form: refused J{number}\n"),
+            status: Some(1),
+        };
+        assert_eq!(moved("up", &sheet_16(1)), well(&sheet_16(2)));
+        assert_eq!(moved("down", &sheet_16(2)), well(&sheet_16(1)));
+        assert_eq!(moved("up", &sheet_16(2)), refused(15));
+        assert_eq!(moved("down", &sheet_16(1)), refused(15));
+        assert_eq!(moved("up", &[0, 0]), well(&[0xFE, 2, 1, 0, 0, 0]));
+        assert_eq!(moved("down", &[0xFE, 2, 1, 0, 0, 0]), well(&[0, 0]));
+        for sheet in
+            [form_2(2, &[SUM]), form_2(1, &[BLANK]), form_2(1, &[LOCK]), form_2(1, &[SHUT])]
+        {
+            assert_eq!(moved("down", &sheet), refused(15));
+            assert_eq!(moved("up", &sheet), refused(15));
+        }
+        // The sheet's own number first; J14 is none of a move.
+        assert_eq!(moved("down", &form_2(1, &[SHUT, SUM])), refused(12));
+        assert_eq!(moved("down", &[0]), refused(1));
+        assert_eq!(moved("up", &[65, 0]), refused(2));
+        // The most bytes that an accepted sheet can have: 21 steps, 255 pages.
+        let mut large = vec![21, 0];
+        let mut offset = 2 + 12 * 21;
+        for number in 0..21u32 {
+            let (kind, ead) = match number {
+                0 => (3, 0x07FFFu32),
+                1 => (3, 0x077FF),
+                2 => (3, 0xF16FF),
+                _ => (4, 0x007FF),
+            };
+            let sad = if number == 2 { 0xF1000u32 } else { 0 };
+            large.push(kind);
+            large.extend(&sad.to_le_bytes()[..3]);
+            large.extend(&ead.to_le_bytes()[..3]);
+            large.push(0);
+            large.extend(u32::to_le_bytes(offset));
+            offset += if kind == 3 { ead + 1 - sad } else { 0 };
+        }
+        large.resize(offset as usize, 0xFF);
+        assert_eq!(large.len(), 65_534);
+        let up = moved("up", &large);
+        assert_eq!((up.output.len(), up.status), (65_538, Some(0)));
+        assert_eq!(moved("down", &up.output), well(&large));
+    }
+
+    #[test]
+    fn files_and_results() {
+        let dir = std::env::temp_dir().join(format!("sheetplay-form-{}", std::process::id()));
+        let place = dir.to_str().expect("a path of text");
+        assert_eq!(ended(&["generate-files", "form", "106", "20", place], &[]).status, Some(0));
+        let results = run(&["form-results", place], &[]);
+        let mut due = String::new();
+        for number in 1..=20 {
+            let name = format!("{number:04}.sheet");
+            let sheet = std::fs::read(dir.join(&name)).expect("the file is there");
+            for way in ["up", "down"] {
+                let Ended { output, errors, .. } = ended(&["form", way], &sheet);
+                if errors.is_empty() {
+                    let bytes: String = output.iter().map(|byte| format!(" {byte:02X}")).collect();
+                    due.push_str(&format!("{name} {way} sheet {}{bytes}\n", output.len()));
+                } else {
+                    due.push_str(&format!("{name} {way} {errors}"));
+                }
+            }
+        }
+        assert_eq!(results, due);
+        std::fs::remove_dir_all(dir).expect("the files are removed");
+    }
+
+    #[test]
+    fn meaning_with_options() {
+        assert_eq!(run(&["meaning-check", "106", "1000"], &[]), "ok 1000\n");
+    }
+}

@@ -13,7 +13,7 @@ use Rattle.rules.specs.declared.Flash.{Flash}
 use Rattle.rules.specs.declared.Options.{Options}
 use Rattle.rules.specs.declared.Status.the-variants.{Byte}
 use Rattle.rules.specs.Chip.{Memory, small, byteAt, partOf, blankByte, blocks, blockSize, pagesPerBlock, flashSize, flashOf}
-use Rattle.rules.specs.Sheet.{count}
+use Rattle.rules.specs.Sheet.{formTwo, count}
 use Rattle.rules.specs.Meaning.{Ended, meaningFrom, meaning}
 use Rattle.rules.specs.Hex.{notGiven, anyGiven, Named, blockCells, cellByte, cellBytes, blocksNamed, bodyOf, stepsOf, sheetOf}
 use Rattle.rules.proofs.Choices.{both}
@@ -23,7 +23,7 @@ use Rattle.joined_laws.specs.Turns.{Fit}
 use Rattle.hex_laws.specs.Programmed.{Given, inNamed, Unprotected, Finished}
 use Rattle.hex_laws.proofs.NamedOnce.{sameFlash, same-flash, isBlock, names, blocks-named}
 use Rattle.hex_laws.proofs.OneBlock.{rewritten, parts-after, fit-after, block-meaning}
-use Rattle.hex_laws.proofs.SheetMade.{body-length, Ahead, next, all-ahead}
+use Rattle.hex_laws.proofs.SheetMade.{body-length, Ahead, next, form-one, all-ahead}
 
 -- ---- block after block ----
 
@@ -40,14 +40,14 @@ record After (c : Memory) (s : List ℕ) (bs : List Named) (o : Options) (m : Me
   steps : e .report .steps ≡ count s
   pieces : e .report .pieces ≡ 0
 
-module _ (c : Memory) (cells : Fit small c) (s : List ℕ) (few : length s ≤ 65536) (o : Options) (free : Unprotected o) where
+module _ (c : Memory) (cells : Fit small c) (s : List ℕ) (form : formTwo s ≡ false) (few : length s ≤ 65536) (o : Options) (free : Unprotected o) where
   after-from : (bs : List Named) (i at n : ℕ) (m : Memory) (sums : List ℕ) → Fit small m → Ahead c s i at bs
       → After c s bs o m (meaningFrom small s o m i n sums (3 * length bs))
   unfolding meaningFrom names
   after-from [] i at n m sums fit a =
       record { fit = fit; parts = λ f k. refl; options = refl; status = refl; steps = (let q = a .all in omega arith); pieces = refl }
   after-from (b ∷ bs) i at n m sums fit a =
-      let x = next c cells s few i at b bs a in
+      let x = next c cells s form few i at b bs a in
       let body = bodyOf c b in
       let l = body-length c cells b (x .here) in
       let mid = rewritten (b .flash) (b .block) body m in
@@ -166,7 +166,7 @@ sheet-ends c cells steps few o free m fit sums =
     let s = sheetOf c in
     let a = all-ahead c cells steps few in
     let n : count s ≡ 3 * length (blocksNamed c) = (let q = a .all in omega arith) in
-    let r = after-from c cells s few o free (blocksNamed c) 0 (2 + 12 * stepsOf c) 0 m sums fit a in
+    let r = after-from c cells s (form-one c cells steps few) few o free (blocksNamed c) 0 (2 + 12 * stepsOf c) 0 m sums fit a in
     rw n
     (record {
       flashes = record {

@@ -3,7 +3,7 @@
 use mathlib.Core.Path.{_≡_, refl, sym, ap, _∙_}
 use mathlib.Core.Bool.{true, false, cond, _&&_}
 use mathlib.Core.List.{List, _++_}
-use Prim.Native.Nat.{ℕ, zero, suc, _+_, _-_, _*_, _/_, _<_, _≤_}
+use Prim.Native.Nat.{ℕ, zero, suc, _+_, _-_, _*_, _/_, _%_, _<_, _≤_}
 use native.Mathlib.Omega.{arith}
 use lib.Dec.{eqb}
 use lib.ListN.{length, take, drop, replicate, set, length-drop, length-replicate}
@@ -16,16 +16,16 @@ use Rattle.rules.specs.declared.Kind.{Kind}
 use Rattle.rules.specs.declared.Kind.the-variants.{Erase, Write, Verify}
 use Rattle.rules.specs.declared.Options.{Options}
 use Rattle.rules.specs.declared.Step.{Step}
-use Rattle.rules.specs.Chip.{Memory, small, blank, blankByte, block, blocks, blockSize, firstPage, pageSize, pagesPerBlock, partOf, putPart, eraseBlock, flashOf, withFlash}
+use Rattle.rules.specs.Chip.{Memory, small, blank, blankByte, block, blocks, blockSize, firstByte, firstPage, pageSize, pagesPerBlock, partOf, putPart, eraseBlock, flashOf, withFlash}
 use Rattle.rules.specs.Options.{eraseProtected, writeProtected}
-use Rattle.rules.specs.Sheet.{stepAt, bodyPage}
-use Rattle.rules.specs.Meaning.{tried, eraseFrom, writeFrom, done, eraseDone, writeDone, stepDone, stepMeaning, meaningFrom}
+use Rattle.rules.specs.Sheet.{flagsOf, stepAt, bodyPage}
+use Rattle.rules.specs.Meaning.{tried, eraseFrom, writeFrom, done, eraseDone, writeDone, stepDone, stepMeaning, optionsBy, optionsAfter, meaningFrom}
 use Rattle.rules.specs.Hex.{Named}
 use Rattle.octets.proofs.Lists.{same-refl}
 use Rattle.chip_finder.proofs.Geometry.{blocks-in-pages}
 use Rattle.chip_finder.proofs.Parts.{inside, length-put, part-put-other}
 use Rattle.chip_flash.proofs.Memories.{with-of}
-use Rattle.joined_laws.specs.Turns.{Fit}
+use Rattle.joined_laws.specs.Turns.{Fit, Leaves}
 use Rattle.joined_laws.proofs.MeaningSteps.{erase-means, erase-last}
 use Rattle.joined_laws.proofs.Sizes.{fit-put, fit-erased}
 use Rattle.hex_laws.specs.Programmed.{Unprotected}
@@ -36,7 +36,8 @@ use Rattle.hex_laws.proofs.NamedOnce.{sameFlash, same-own, isBlock}
 
 -- a step of one block
 abbrev pub stepFor : Kind → Flash → Block → ℕ → Step
-stepFor k f b body = record { kind = k; flash = f; first = b; last = b; body = body }
+stepFor k f b body =
+    record { kind = k; flash = f; first = b; last = b; flags = flagsOf (firstByte f b); body = body }
 
 one-block : (f : Flash) (b : ℕ) → (b + 1 - b) * blockSize f ≡ blockSize f
 one-block Code b = omega arith
@@ -68,7 +69,7 @@ module _ (o : Options) (free : Unprotected o) where
       let t = stepFor Erase f b body in
       let one : b .0 + 1 - b .0 ≡ 1 = omega arith in
       let none : b .0 + 0 ≡ b .0 = omega arith in
-      erase-means o s t m refl
+      ap (λ (x : Leaves). x .done) (erase-means o s t m refl)
       ∙ ap (λ (k : ℕ). eraseDone (eraseFrom o t m 0 k)) one
       ∙ erase-last o t m 0 (erase-free f (block (b .0 + 0)))
       ∙ ap (λ (k : ℕ). done (eraseBlock m f (block k)) 0x06 0 1 0) none
@@ -166,10 +167,11 @@ module _ (m : Memory) (fit : Fit small m) (b : Named) (body : List ℕ) (h : b .
 -- ---- three steps of a meaning ----
 
 module _ (o : Options) (s : List ℕ) where
-  step-on : (i n left frames : ℕ) (m after : Memory) (sums : List ℕ) → stepMeaning o s (stepAt small s i) m ≡ done after 0x06 0 frames 0
+  step-on : (i n left frames : ℕ) (m after : Memory) (sums : List ℕ) → optionsAfter (stepAt small s i) o ≡ o
+      → stepMeaning o s (stepAt small s i) m ≡ done after 0x06 0 frames 0
       → meaningFrom small s o m i n sums (suc left) ≡ meaningFrom small s o after (i + 1) (n + frames) (set sums i 0) left
   unfolding meaningFrom
-  step-on i n left frames m after sums e = rw e
+  step-on i n left frames m after sums kept e = rw (kept, e)
 
 -- entries i, i + 1 and i + 2 of a sheet are the erase, the write and the verify of that block, with these bodies
 pub record Three (s : List ℕ) (i : ℕ) (b : Named) (body : List ℕ) : Type 0 where
@@ -186,6 +188,7 @@ module _ (o : Options) (free : Unprotected o) (s : List ℕ) (i : ℕ) (b : Name
   pub block-meaning : (n left : ℕ) (m : Memory) (sums : List ℕ) → Fit small m
       → meaningFrom small s o m i n sums (suc (suc (suc left)))
       ≡ meaningFrom small s o (rewritten (b .flash) (b .block) body m) (i + 1 + 1 + 1) (n + 1 + (1 + pagesPerBlock (b .flash)) + (1 + pagesPerBlock (b .flash))) (set (set (set sums i 0) (i + 1) 0) (i + 1 + 1) 0) left
+  unfolding optionsAfter optionsBy
   block-meaning n left m sums fit =
       let f = b .flash in
       let at = three .at in
@@ -194,6 +197,6 @@ module _ (o : Options) (free : Unprotected o) (s : List ℕ) (i : ℕ) (b : Name
       let after = rewritten f (b .block) body m in
       let k : partOf (blockSize f) (b .block .0) (flashOf after f) ≡ body =
       parts-after m fit b body h l f (b .block .0) ∙ rw (same-own f, eq-eqb (b .block .0) (b .block .0) refl) in
-      step-on o s i n (suc (suc left)) 1 m (eraseBlock m f (b .block)) sums (rw (three .erase) (erased-block o free s f (b .block) at m))
-      ∙ step-on o s (i + 1) (n + 1) (suc left) p (eraseBlock m f (b .block)) after (set sums i 0) (rw (three .write, ← three .writes) (written-block o s f (b .block) free h at m fit (three .inside)))
-      ∙ step-on o s (i + 1 + 1) (n + 1 + p) left p after after (set (set sums i 0) (i + 1) 0) (rw (three .verify) (verified-block o s f (b .block) (three .other) after (k ∙ sym (three .compares))))
+      step-on o s i n (suc (suc left)) 1 m (eraseBlock m f (b .block)) sums (rw (three .erase)) (rw (three .erase) (erased-block o free s f (b .block) at m))
+      ∙ step-on o s (i + 1) (n + 1) (suc left) p (eraseBlock m f (b .block)) after (set sums i 0) (rw (three .write)) (rw (three .write, ← three .writes) (written-block o s f (b .block) free h at m fit (three .inside)))
+      ∙ step-on o s (i + 1 + 1) (n + 1 + p) left p after after (set (set sums i 0) (i + 1) 0) (rw (three .verify)) (rw (three .verify) (verified-block o s f (b .block) (three .other) after (k ∙ sym (three .compares))))

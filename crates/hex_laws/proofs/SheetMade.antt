@@ -1,27 +1,28 @@
 -- The sheet made of cells, entry by entry: each block's three entries say its erase, write and verify, and the sheet is accepted. Assumes nothing.
 use mathlib.Core.Path.{_≡_, refl, sym, ap, _∙_}
-use mathlib.Core.Bool.{true}
+use mathlib.Core.Bool.{true, false}
 use mathlib.Core.List.{List, [], _∷_, _++_, append-assoc}
 use Prim.Native.Nat.{ℕ, zero, suc, _+_, _-_, _*_, _/_, _%_, _<_, _≤_}
 use native.Mathlib.Omega.{arith}
 use lib.Dec.{ltb}
 use lib.ListN.{length, take, drop, length-append, length-drop}
 use lib.Seq.{take-at, drop-at, drop-drop}
-use borrow.Author.Tests.{eq-eqb, ltb-true}
+use borrow.Author.Tests.{eq-eqb, ne-eqb, ltb-true}
 use Rattle.rules.specs.declared.Range.the-variants.{Blocks}
 use Rattle.rules.specs.declared.Verdict.the-variants.{Accepted}
-use Rattle.rules.specs.Chip.{Memory, small, known, blocks, blockSize, flashOf, firstByte, lastByte, range, invalid}
-use Rattle.rules.specs.Sheet.{headSize, count, mostBytes, lastKind, bodyEnd, offsetDue, entryVerdict, entriesVerdict, verdict, kindOf, stepOf, stepAt}
+use Rattle.rules.specs.Chip.{Memory, small, known, blocks, blockSize, flashOf, firstByte, lastByte, range}
+use Rattle.rules.specs.Sheet.{formTwo, count, bodyEnd, offsetDue, entryVerdict, entriesVerdict, verdict, kindOf, stepOf, stepAt}
 use Rattle.rules.specs.Hex.{Named, blocksNamed, blockCells, cellBytes, bodyOf, entryOf, entriesOf, bodiesOf, stepsOf, sheetOf}
 use Rattle.rules.proofs.Choices.{both}
 use Rattle.chip_finder.proofs.Geometry.{size-bounds}
 use Rattle.chip_finder.proofs.Parts.{inside, length-part}
 use Rattle.chip_finder.proofs.ThereAndBack.{range-there}
 use Rattle.sheet.specs.declared.table.Entry.{Entry}
-use Rattle.sheet.specs.Entry.{entryIn, lengthOf}
+use Rattle.sheet.specs.Entry.{entryIn, lengthOf, pairWrong, lockWrong}
 use Rattle.sheet.proofs.Entries.{none-left, one-accepted}
 use Rattle.sheet.proofs.Fields.{entry-there, says, step-said, due-first, due-later}
 use Rattle.sheet.proofs.Verdicts.{entry-allowed, head-allowed, sheet-allowed, room-allowed}
+use Rattle.sheet_forms.proofs.Heads.{head-one, count-one, most-one, kinds-one, against-one, not-two}
 use Rattle.joined_laws.specs.Turns.{Sized, Fit}
 use Rattle.joined_laws.proofs.FramesHeard.{address-back, first-held, last-held}
 use Rattle.joined_laws.proofs.Run.{known-sized}
@@ -54,18 +55,19 @@ body-length c fit b h =
 
 -- what an entry of one block says
 abbrev saying : ℕ → Named → ℕ → Entry
-saying kind b at = record { kind = kind; sad = firstByte (b .flash) (b .block); ead = lastByte (b .flash) (b .block); zero = 0; offset = at }
+saying kind b at =
+    record { kind = kind; sad = firstByte (b .flash) (b .block); ead = lastByte (b .flash) (b .block); zero = 0; offset = at }
 
-module _ (s : List ℕ) (i kind at : ℕ) (b : Named) (more : List ℕ) (h : b .block .0 < blocks small (b .flash)) (few : at ≤ 65536)
+module _ (s : List ℕ) (form : formTwo s ≡ false) (i kind at : ℕ) (b : Named) (more : List ℕ) (h : b .block .0 < blocks small (b .flash)) (few : at ≤ 65536)
     (e : drop (2 + 12 * i) s ≡ entryOf kind b at ++ more) where
   entry-said : saying kind b at ≡ entryIn s i
-  unfolding headSize entryOf
+  unfolding entryOf
   entry-said =
       let f = b .flash in
       let low = address-back (firstByte f (b .block)) (first-held small sized (b .block) f h) in
       let high = address-back (lastByte f (b .block)) (last-held small sized (b .block) f h) in
       let offset : at % 256 + 256 * (at / 256 % 256) + 65536 * (at / 65536 % 256 + 256 * (at / 65536 / 256 % 256)) ≡ at = omega arith in
-      sym (rw (low, high, offset)) ∙ entry-there s i (entryOf kind b at ++ more) (sym e)
+      sym (rw (low, high, offset)) ∙ entry-there s i (entryOf kind b at ++ more) (sym e ∙ ap (λ (n : ℕ). drop (n + 12 * i) s) (sym (head-one s form)))
 
   entry-range : range small (firstByte (b .flash) (b .block)) (lastByte (b .flash) (b .block)) ≡ Blocks (b .flash) (b .block) (b .block)
   entry-range = range-there small (sized .apart) (b .flash) (b .block) (b .block) (omega arith) h
@@ -78,10 +80,15 @@ module _ (s : List ℕ) (i kind at : ℕ) (b : Named) (more : List ℕ) (h : b .
   entry-end = sym (says s i (saying kind b at) entry-said .end)
 
   entry-good : 1 ≤ kind → kind ≤ 3 → offsetDue s i ≡ at → bodyEnd s i ≤ length s → entryVerdict small s i ≡ Accepted
-  unfolding lastKind
+  unfolding pairWrong lockWrong
   entry-good low high due end =
       let x = says s i (saying kind b at) entry-said in
-      entry-allowed small s i (omega (arith, x .kind)) (omega (arith, x .kind)) (sym (x .zero)) (ap invalid (sym (x .pair small) ∙ entry-range)) (sym (x .offset) ∙ sym due) end
+      let other = ne-eqb kind 6 (λ z. omega (arith, high, z)) in
+      entry-allowed small s i (omega (arith, x .kind)) (omega (arith, x .kind, kinds-one s form)) (sym (x .zero))
+      (sym (x .pair small) ∙ rw (other, entry-range))
+      (sym (x .lock) ∙ rw other)
+      (sym (x .offset) ∙ sym due)
+      end
 
 -- a body of one block
 one-body : (b : Named) → lastByte (b .flash) (b .block) .0 - firstByte (b .flash) (b .block) .0 + 1 ≡ blockSize (b .flash)
@@ -127,7 +134,7 @@ due-next s i at e =
     let n : i + 1 - 1 ≡ i = omega arith in
     due-later s (i + 1) (λ z. omega arith) ∙ ap (bodyEnd s) n ∙ e
 
-module _ (c : Memory) (fit : Fit small c) (s : List ℕ) (few : length s ≤ 65536) where
+module _ (c : Memory) (fit : Fit small c) (s : List ℕ) (form : formTwo s ≡ false) (few : length s ≤ 65536) where
   pub next : (i at : ℕ) (b : Named) (bs : List Named) → Ahead c s i at (b ∷ bs) → Next c s i at b bs
   unfolding entriesOf bodiesOf allThere lengthOf
   next i at b bs a =
@@ -148,23 +155,23 @@ module _ (c : Memory) (fit : Fit small c) (s : List ℕ) (few : length s ≤ 655
       let low = a .low in
       let some = size-bounds (b .flash) .0 in
       let k = one-body b in
-      let e1 : bodyEnd s i ≡ at = entry-end s i 1 at b _ here (omega arith) t1 ∙ omega arith in
-      let e2 : bodyEnd s (i + 1) ≡ at + size = entry-end s (i + 1) 2 at b _ here (omega arith) t2 ∙ omega arith in
-      let e3 : bodyEnd s (i + 1 + 1) ≡ at + size + size = entry-end s (i + 1 + 1) 3 (at + size) b _ here (omega arith) t3 ∙ omega arith in
+      let e1 : bodyEnd s i ≡ at = entry-end s form i 1 at b _ here (omega arith) t1 ∙ omega arith in
+      let e2 : bodyEnd s (i + 1) ≡ at + size = entry-end s form (i + 1) 2 at b _ here (omega arith) t2 ∙ omega arith in
+      let e3 : bodyEnd s (i + 1 + 1) ≡ at + size + size = entry-end s form (i + 1 + 1) 3 (at + size) b _ here (omega arith) t3 ∙ omega arith in
       let d2 = due-next s i at e1 in
       let d3 = due-next s (i + 1) (at + size) e2 in
       let twice : at + 2 * size ≡ at + size + size = omega arith in
       record {
         here = here;
-        erase = entry-good s i 1 at b _ here (omega arith) t1 (omega arith) (omega arith) (a .due) (omega arith);
-        write = entry-good s (i + 1) 2 at b _ here (omega arith) t2 (omega arith) (omega arith) d2 (omega arith);
-        verify = entry-good s (i + 1 + 1) 3 (at + size) b _ here (omega arith) t3 (omega arith) (omega arith) d3 (omega arith);
+        erase = entry-good s form i 1 at b _ here (omega arith) t1 (omega arith) (omega arith) (a .due) (omega arith);
+        write = entry-good s form (i + 1) 2 at b _ here (omega arith) t2 (omega arith) (omega arith) d2 (omega arith);
+        verify = entry-good s form (i + 1 + 1) 3 (at + size) b _ here (omega arith) t3 (omega arith) (omega arith) d3 (omega arith);
         three = record {
           at = at;
           other = at + size;
-          erase = entry-step s i 1 at b _ here (omega arith) t1;
-          write = entry-step s (i + 1) 2 at b _ here (omega arith) t2;
-          verify = entry-step s (i + 1 + 1) 3 (at + size) b _ here (omega arith) t3;
+          erase = entry-step s form i 1 at b _ here (omega arith) t1;
+          write = entry-step s form (i + 1) 2 at b _ here (omega arith) t2;
+          verify = entry-step s form (i + 1 + 1) 3 (at + size) b _ here (omega arith) t3;
           inside = omega arith;
           writes = w .0;
           compares = v .0;
@@ -216,12 +223,17 @@ module _ (c : Memory) (fit : Fit small c) (steps : stepsOf c ≤ 64) (few : leng
   abbrev table : List ℕ
   table = entriesOf (2 + 12 * stepsOf c) ns
 
+  -- its count is at most 64, so it is of form 1
+  pub form-one : formTwo s ≡ false
+  unfolding sheetOf
+  form-one = not-two s (omega (arith, steps))
+
   pub steps-counted : count s ≡ stepsOf c
-  unfolding count sheetOf
-  steps-counted = omega arith
+  unfolding sheetOf
+  steps-counted = count-one s form-one ∙ omega (arith, steps)
 
   pub all-ahead : Ahead c s 0 (2 + 12 * stepsOf c) ns
-  unfolding headSize sheetOf
+  unfolding sheetOf
   all-ahead =
       let n = stepsOf c in
       let e = entries-length (2 + 12 * n) ns in
@@ -233,18 +245,22 @@ module _ (c : Memory) (fit : Fit small c) (steps : stepsOf c ≤ 64) (few : leng
         table = refl;
         bodies = drop-at head (bodiesOf c ns) (2 + 12 * n) l;
         low = omega arith;
-        due = due-first s 0 refl ∙ rw steps-counted;
+        due = due-first s 0 refl ∙ rw (head-one s form-one, steps-counted);
         all = omega (arith, steps-counted);
         there = named-all-there c;
       }
 
   -- THE MADE SHEET IS ACCEPTED, given room for sums
   pub sheet-good : (room : ℕ) → count s ≤ room → verdict small s room ≡ Accepted
-  unfolding known headSize mostBytes
+  unfolding known
   sheet-good room r =
       let a = all-ahead in
-      let g = entries-good c fit s few ns 0 (2 + 12 * stepsOf c) a in
+      let g = entries-good c fit s form-one few ns 0 (2 + 12 * stepsOf c) a in
       let n : 3 * length ns ≡ count s = sym steps-counted in
-      let head = head-allowed s (let q = a .low in omega arith) few (let k = steps-counted in omega arith) (rw steps-counted (a .low)) in
+      let two = head-one s form-one in
+      let own = against-one s form-one in
+      let head =
+      head-allowed s (let q = a .low in omega (arith, two)) (omega (arith, few, most-one s form-one)) (let k = steps-counted in omega arith) (rw form-one)
+      (rw (two, steps-counted) (a .low)) in
       let entries : entriesVerdict small s 0 (count s) ≡ Accepted = ap (entriesVerdict small s 0) (sym n) ∙ g .0 in
-      room-allowed small s room refl (sheet-allowed small s head entries (rw (eq-eqb _ _ (g .1)))) r
+      room-allowed small s room refl (sheet-allowed s head (rw own entries) (rw (eq-eqb _ _ (g .1)))) (rw own) r

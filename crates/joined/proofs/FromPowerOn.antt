@@ -22,7 +22,7 @@ use Rattle.rules.specs.StandIn.{State, Outcome, Powered, rest, step, flashVerdi
 use Rattle.rules.specs.Sheet.{verdict}
 use Rattle.rules.specs.Player.{newPlayer}
 use Rattle.rules.specs.Meaning.{meaning, stepFrames}
-use Rattle.rules.specs.Run.{Joined, joinedAtStart, waits}
+use Rattle.rules.specs.Run.{Joined, joinedAtStart, waits, settled}
 use Rattle.rules.proofs.Sheet.{chip-known}
 use Rattle.chip_finder.specs.LentFlashes.{memory}
 use Rattle.standin_state.proofs.Lending.{flashes-fit, all-lent}
@@ -39,6 +39,7 @@ use Rattle.standin.proofs.Opens.{roomy, opening-fed}
 use Rattle.player_laws.proofs.PlaceInSheet.{stands-new, call-allowed}
 use Rattle.joined_laws.specs.Turns.{Fit, endOf}
 use Rattle.joined_laws.proofs.FramesHeard.{rest-waits}
+use Rattle.joined_laws.proofs.Open.{ifpr-one}
 use Rattle.joined_laws.proofs.LengthsKept.{feed-kept}
 use Rattle.joined_laws.proofs.Opened.{ident-there, opens}
 use Rattle.joined_laws.proofs.Run.{some-code, known-run}
@@ -150,7 +151,7 @@ module _ (chip : Chip) (s frame reply sums each : List ℕ)
         end = ap (λ (x : SheetOutcome). endOf (x .reached)) p ∙ r .end;
         frames = ap (λ (x : SheetOutcome). x .each) p;
         over = ap (λ (x : SheetOutcome). x .reached .player .stage) p ∙ r .over;
-        settled = ap (λ (x : SheetOutcome). waits chip (x .reached .state)) p ∙ r .settled;
+        settled = ap (λ (x : SheetOutcome). settled chip (x .reached .state)) p ∙ r .settled;
       }
 
   -- ---- from a power-on ----
@@ -185,4 +186,4 @@ module _ (chip : Chip) (s frame reply sums each : List ℕ)
     power-on-open-play n out roomed fed well play =
         let led = power-on-opens chip (chip-known chip s (length sums) ok) d same o code dat fit a on f held code1 dat1 out1 n out roomed fed well in
         let m = memory code dat in
-        comes (rest Command Idle o m) fit (rest-waits chip o m) (q .answer) end each2 (play ∙ ap (λ (st : State). sheetPlayed chip s (joinedAtStart st frame reply sums) each) led)
+        comes (rest Command Idle o m) fit (rest-waits chip o m (ifpr-one o n)) (q .answer) end each2 (play ∙ ap (λ (st : State). sheetPlayed chip s (joinedAtStart st frame reply sums) each) led)

@@ -22,7 +22,7 @@ use Rattle.player_laws.proofs.Moves.{absorb-new}
 use Rattle.player_laws.proofs.PlaceInSheet.{stands-new}
 use Rattle.player_absorb.specs.Absorbing.{absorbedIn}
 use Rattle.joined_laws.specs.Turns.{Sized}
-use Rattle.joined_laws.proofs.Run.{Before, doneAt, Played, played, over-ends, begun-as, before-first}
+use Rattle.joined_laws.proofs.Run.{Before, doneAt, leavesAt, Played, played, over-ends, begun-as, before-first}
 use Rattle.joined_laws.proofs.Turns.{any-turn-as}
 use Rattle.joined.specs.Plays.{isOver, playedTo, allPlayed}
 use Rattle.joined.specs.Turn.{Rooms, StepReady}
@@ -63,7 +63,7 @@ module _ (chip : Chip) (s : List ℕ) (i : ℕ) (each : List ℕ) (j : Joined) w
 
   module _ (left : ℕ) where
     done-each : d .status ≡ 0x06
-        → eachFrom (suc left) ≡ stepFramesFrom chip s (j .state .options) (d .memory) (i + 1) (set each i (d .frames)) left
+        → eachFrom (suc left) ≡ stepFramesFrom chip s (leavesAt chip s i j .options) (d .memory) (i + 1) (set each i (d .frames)) left
     unfolding stepFramesFrom
     done-each e = rw (eq-eqb (d .status) 0x06 e)
 

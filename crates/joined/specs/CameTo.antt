@@ -11,7 +11,7 @@ use Rattle.joined.specs.declared.Answer.{Answer}
 use Rattle.joined.specs.declared.Answer.the-variants.{Played}
 
 -- flash, options, report and list of sums are those, and so is the list of each step's frames; the player is at its end, and the stand-in waits
--- for a command
+-- for a command, or is Silent where IFPR is 0 (02, M-106)
 pub record CameTo (chip : Chip) (e : Ended) (each : List ℕ) (answer : Answer) (j : Joined) (list : List ℕ) : Type 0 where
   pub played : answer ≡ Played
   pub end : endOf j ≡ e

@@ -19,7 +19,7 @@ use Rattle.rules.specs.Run.{waits}
 use Rattle.chip_finder.proofs.Parts.{inside}
 use Rattle.joined_laws.specs.Hears.{hears}
 use Rattle.joined_laws.specs.Turns.{Fit}
-use Rattle.joined_laws.proofs.FramesHeard.{hears-erase-free, rest-waits}
+use Rattle.joined_laws.proofs.FramesHeard.{hears-erase-free, rest-waits, waiting-open}
 use Rattle.joined_laws.proofs.LengthsKept.{feed-kept}
 use Rattle.joined_laws.proofs.Run.{known-sized}
 use Rattle.joined_blocks.specs.Erases.{ErasesCommute, EraseTwice, eraseFrame, Heard, inTurn, Free, EitherOrder, AsOnce, ErasesHeard, ErasesFromPowerOn}
@@ -85,7 +85,7 @@ module _ (chip : Chip) (k : known chip ≡ true) where
         let m = eraseBlock (s .memory) f a in
         let y = eraseFrame g b in
         ap (λ (z : Out). record { answers = z .answer ∷ hears chip (z .state) y .answer ∷ []; state = hears chip (z .state) y .state }) (erased s w f a v)
-        ∙ ap (λ (z : Out). record { answers = ack ∷ z .answer ∷ []; state = z .state }) (erased (after s m) (rest-waits chip (s .options) m) g b u)
+        ∙ ap (λ (z : Out). record { answers = ack ∷ z .answer ∷ []; state = z .state }) (erased (after s m) (rest-waits chip (s .options) m (waiting-open chip s w)) g b u)
 
     either-order : Fit chip (s .memory) → (f g : Flash) (a b : Block) → Free chip (s .options) f a → Free chip (s .options) g b
         → EitherOrder chip s (eraseFrame f a) (eraseFrame g b)

@@ -122,7 +122,7 @@ sums-add-told chip k s w f a b c h g there =
     }
   where
     asks : Block → Block → Step
-    asks x y = record { kind = Sum; flash = f; first = x; last = y; body = 0 }
+    asks x y = record { kind = Sum; flash = f; first = x; last = y; flags = record { sf1 = 0; sf2 = 0 }; body = 0 }
 
     told : (x y : Block) → x .0 ≤ y .0 → y .0 < blocks chip f → hears chip s (sumFrame f x y) .answer ≡ sumTold (sumOf (s .memory) f x y)
     told x y o t = ap (λ (z : Out). z .answer) (hears-sum chip (known-sized chip k) s w (asks x y) o t)

@@ -1,4 +1,5 @@
 // What has to be before a turn is made, in the order of the refusals.
+use chip_options::read::ifpr;
 use rules::Chip;
 use rules::FRAME_ROOM;
 use rules::Phase;
@@ -14,7 +15,8 @@ use standin_state::Core;
 use standin_state::lent::lent_verdict;
 ghost use mathlib.Core.Path.{_≡_};
 ghost use Rattle.rules.specs.Chip.{Memory};
-ghost use Rattle.rules.specs.Run.{waits};
+ghost use Rattle.rules.specs.StandIn.{taskNow, received};
+ghost use Rattle.rules.specs.Run.{waitsIn, waits};
 ghost use Rattle.standin_engine.specs.View.{view};
 ghost use Rattle.joined_checks.specs.Checks.{joinedVerdict, isReady, startsStep, isCommand, isIdle};
 
@@ -92,9 +94,9 @@ fn is_idle(task: Task) -> bool
     }
 }
 
-// A stand-in that waits for a command: phase Command, no command begun, nothing half received.
-pub fn waits(chip: Chip, c: Core, held: &[u8; 260]) -> bool
-    ensures { λ r. ⌜ ((m : Memory) → r ≡ waits chip (view c (now (held .entry)) m)) ⌝ }
+// Phase Command, no command begun, nothing half received.
+fn is_free(chip: Chip, c: Core, held: &[u8; 260]) -> bool
+    ensures { λ r. ⌜ r ≡ waitsIn (c .phase) (taskNow chip (c .phase) (c .task)) (received (c .have) (now (held .entry))) ⌝ }
 {
     let phase = c.phase;
     let task = c.task;
@@ -108,4 +110,15 @@ pub fn waits(chip: Chip, c: Core, held: &[u8; 260]) -> bool
     let whole: &[u8] = held;
     let _room = whole.len();
     standin_engine::held_count(c.have, held) == 0
+}
+
+// A stand-in that waits for a command: it is free, and IFPR is 1. No power-on leads to phase Command with IFPR 0, where a lock would get no answer.
+pub fn waits(chip: Chip, c: Core, held: &[u8; 260]) -> bool
+    ensures { λ r. ⌜ ((m : Memory) → r ≡ waits chip (view c (now (held .entry)) m)) ⌝ }
+{
+    if !is_free(chip, c, held) {
+        return false;
+    }
+    let o = c.options;
+    ifpr(o) == 1
 }

@@ -13,7 +13,7 @@ use Rattle.rules.specs.declared.Verdict.the-variants.{Accepted}
 use Rattle.rules.specs.Chip.{Memory}
 use Rattle.rules.specs.Sheet.{count, verdict, stepAt}
 use Rattle.rules.specs.Player.{reportOf}
-use Rattle.rules.specs.Meaning.{Done, Ended, ended, stepMeaning, meaningFrom, meaning}
+use Rattle.rules.specs.Meaning.{Done, Ended, ended, stepMeaning, optionsAfter, meaningFrom, meaning}
 use Rattle.rules.specs.Run.{clean, Joined, Ran, stepRun, run, waits}
 use Rattle.joined_laws.specs.Turns.{Sized, Fit, AtBeginning, framesFrom}
 use Rattle.joined_laws.proofs.Steps.{step-ends}
@@ -33,19 +33,22 @@ sum-frames : (chip : Chip) (s : List ℕ) (o : Options) (m : Memory) (i frames :
 unfolding meaningFrom framesFrom
 sum-frames chip s o m i frames sums zero = omega arith
 sum-frames chip s o m i frames sums (suc left) =
-    go (eqb (d .status) 0x06) (sum-frames chip s o (d .memory) (i + 1) (frames + d .frames) (set sums i (d .sum)) left)
+    go (eqb (d .status) 0x06) (sum-frames chip s after (d .memory) (i + 1) (frames + d .frames) (set sums i (d .sum)) left)
   where
     d : Done
     d = stepMeaning o s (stepAt chip s i) m
 
+    after : Options
+    after = optionsAfter (stepAt chip s i) o
+
     stops : Ended
-    stops = ended (d .memory) o (d .status) i (frames + d .frames) (d .pieces) sums
+    stops = ended (d .memory) after (d .status) i (frames + d .frames) (d .pieces) sums
 
     on : Ended
-    on = meaningFrom chip s o (d .memory) (i + 1) (frames + d .frames) (set sums i (d .sum)) left
+    on = meaningFrom chip s after (d .memory) (i + 1) (frames + d .frames) (set sums i (d .sum)) left
 
-    go : (t : Bool) → on .report .frames ≡ frames + d .frames + framesFrom chip s o (d .memory) (i + 1) left
-        → cond t on stops .report .frames ≡ frames + (d .frames + cond t (framesFrom chip s o (d .memory) (i + 1) left) 0)
+    go : (t : Bool) → on .report .frames ≡ frames + d .frames + framesFrom chip s after (d .memory) (i + 1) left
+        → cond t on stops .report .frames ≡ frames + (d .frames + cond t (framesFrom chip s after (d .memory) (i + 1) left) 0)
     go true h = omega (arith, h)
     go false h = omega arith
 

@@ -6,7 +6,7 @@ use Prim.Native.Nat.{ℕ, suc, _+_, _*_, _/_, _%_, _<_, _≤_}
 use native.Mathlib.Omega.{arith}
 use lib.Dec.{eqb}
 use lib.ListN.{length}
-use borrow.Author.Tests.{eq-eqb, ne-eqb}
+use borrow.Author.Tests.{eqb-true, eq-eqb, ne-eqb}
 use Rattle.rules.specs.declared.Chip.{Chip}
 use Rattle.rules.specs.declared.Flash.{Flash}
 use Rattle.rules.specs.declared.Flash.the-variants.{Code, Data}
@@ -23,22 +23,23 @@ use Rattle.rules.specs.declared.Task.{Task}
 use Rattle.rules.specs.declared.Task.the-variants.{Idle, Programming, Verifying}
 use Rattle.rules.specs.declared.CodeRow.the-variants.{Row}
 use Rattle.rules.specs.declared.Fault.{Fault}
-use Rattle.rules.specs.declared.Fault.the-variants.{Well, Protected}
-use Rattle.rules.specs.Chip.{Memory, addressBytes, blocks, firstByte, lastByte, wordBytes, eraseBlock, bytesFrom, checksum, pageOf, eraseAddress, range}
-use Rattle.rules.specs.Options.{eraseProtected}
+use Rattle.rules.specs.declared.Fault.the-variants.{Well, NotBlank, Protected}
+use Rattle.rules.specs.Chip.{Memory, addressBytes, blocks, firstByte, lastByte, wordBytes, blank, eraseBlock, bytesFrom, checksum, pageOf, eraseAddress, range}
+use Rattle.rules.specs.Options.{IFPR, eraseProtected, securitySet}
 use Rattle.rules.specs.First.{firstFault, first}
 use Rattle.rules.specs.Frame.{commandStart, dataStart, lastEnd, endDue, whole, dataFault, statusByte, lenByte, sumByte, frame, one, pair, lenOf, bodyOf, endOf, sumHolds}
-use Rattle.rules.specs.Command.{phaseNumber, rows, lookup, allowed, lenDue, codeOf, sadOf, eadOf, frameChecks, commands, readAs, decoded, overBlocks, atBlock, orderChecks, unless, judgedOrder, judged, done}
+use Rattle.rules.specs.Command.{phaseNumber, rows, lookup, allowed, lenDue, codeOf, sadOf, eadOf, frameChecks, commands, readAs, decoded, overBlocks, atBlock, orderChecks, unless, judgedOrder, judged, usedIn, secured, done}
 use Rattle.rules.specs.StandIn.{State, Fed, out, rest, startOf, taskNow, onFrame, onTask, onCommand, refused, ahead, lastPage, later, pageGuarded, pageFault, pageWritten, onPage, compared, onCompare, onJudged}
 use Rattle.rules.specs.declared.Order.{Order}
-use Rattle.rules.specs.declared.Order.the-variants.{Verify, Erase, Program, Checksum}
+use Rattle.rules.specs.declared.Order.the-variants.{Verify, Erase, BlankCheck, Program, SecuritySet, Checksum}
 use Rattle.rules.specs.declared.Decoded.the-variants.{Is}
 use Rattle.rules.specs.declared.Judged.{Judged}
 use Rattle.rules.specs.declared.Judged.the-variants.{Ordered}
-use Rattle.rules.specs.Player.{command, pairCommand}
-use Rattle.rules.specs.Run.{allBytes, waitsIn, waits}
+use Rattle.rules.specs.Player.{command, pairBytes, pairCommand, blankCommand, lockCommand}
+use Rattle.rules.specs.Run.{allBytes, waitsIn, waits, settled}
 use Rattle.chip_finder.proofs.ThereAndBack.{erase-there, range-there}
 use Rattle.frame_build.proofs.Built.{len-framed, body-framed, end-framed, sum-framed, whole-framed}
+use Rattle.rules.proofs.Choices.{both}
 use Rattle.rules.proofs.First.{applies, passed, none-applies}
 use Rattle.frame_judge.proofs.Checks.{framed}
 use Rattle.standin_verdict.proofs.Verdicts.{stopped, went-on}
@@ -60,9 +61,12 @@ waiting Command (Verifying p) g e = absurd (false≢true e)
 waiting Silent t g e = absurd (false≢true e)
 
 module _ (chip : Chip) (s : State) (w : waits chip s ≡ true) where
-  all-three : (s .phase ≡ Command) × (taskNow chip (s .phase) (s .task) ≡ Idle) × (s .got ≡ [])
+  both-parts : (waitsIn (s .phase) (taskNow chip (s .phase) (s .task)) (s .got) ≡ true) × (eqb (IFPR (s .options)) 1 ≡ true)
   unfolding waits
-  all-three = waiting (s .phase) (taskNow chip (s .phase) (s .task)) (s .got) w
+  both-parts = both (waitsIn (s .phase) (taskNow chip (s .phase) (s .task)) (s .got)) (eqb (IFPR (s .options)) 1) w
+
+  all-three : (s .phase ≡ Command) × (taskNow chip (s .phase) (s .task) ≡ Idle) × (s .got ≡ [])
+  all-three = waiting (s .phase) (taskNow chip (s .phase) (s .task)) (s .got) (both-parts .0)
 
   pub waiting-phase : s .phase ≡ Command
   waiting-phase = all-three .0
@@ -73,9 +77,32 @@ module _ (chip : Chip) (s : State) (w : waits chip s ≡ true) where
   pub waiting-got : s .got ≡ []
   waiting-got = all-three .2
 
-pub rest-waits : (chip : Chip) (o : Options) (m : Memory) → waits chip (rest Command Idle o m) ≡ true
-unfolding waits waitsIn taskNow
-rest-waits chip o m = refl
+  pub waiting-open : IFPR (s .options) ≡ 1
+  waiting-open = eqb-true (IFPR (s .options)) 1 (both-parts .1)
+
+module _ (chip : Chip) (o : Options) (m : Memory) where
+  pub rest-waits : IFPR o ≡ 1 → waits chip (rest Command Idle o m) ≡ true
+  unfolding waits waitsIn taskNow
+  rest-waits i = eq-eqb (IFPR o) 1 i
+
+  -- and so it is settled; with IFPR 0 it is so where it is Silent
+  pub rest-settled : IFPR o ≡ 1 → settled chip (rest Command Idle o m) ≡ true
+  unfolding settled
+  rest-settled i = rw (eq-eqb (IFPR o) 1 i) (rest-waits i)
+
+  pub silent-settled : IFPR o ≡ 0 → settled chip (rest Silent Idle o m) ≡ true
+  unfolding settled
+  silent-settled z = rw (ne-eqb (IFPR o) 1 (λ i. omega (arith, z, i)))
+
+-- a settled stand-in with IFPR 1 waits
+pub settled-waits : (chip : Chip) (s : State) → settled chip s ≡ true → IFPR (s .options) ≡ 1 → waits chip s ≡ true
+unfolding settled
+settled-waits chip s e i = rw (eq-eqb (IFPR (s .options)) 1 i) at e
+
+-- and one that waits is settled
+pub waits-settled : (chip : Chip) (s : State) → waits chip s ≡ true → settled chip s ≡ true
+unfolding settled
+waits-settled chip s w = rw (eq-eqb (IFPR (s .options)) 1 (waiting-open chip s w)) w
 
 -- ---- a frame of the kind awaited, fed byte by byte ----
 
@@ -233,6 +260,45 @@ module _ (chip : Chip) (sized : Sized chip) (s : State) (w : waits chip s ≡ tr
         ≡ out (rest Command Idle (s .options) (s .memory)) (one 0x06 ++ frame dataStart lastEnd (wordBytes (checksum (bytesFrom (s .memory) (t .flash) (t .first) (t .last)))))
     unfolding commands rows lookup readAs orderChecks done
     hears-sum = hears-pair 0xB0 Checksum refl refl refl
+
+    -- Blank Check of flash alone: its pair, and TAR 00h
+    blank-read : readAs commands 0x32 chip (blankCommand t) ≡ Is (BlankCheck (t .flash) (t .first) (t .last) 0)
+    unfolding commands readAs frame
+    blank-read = ap (overBlocks (λ g a b. BlankCheck g a b 0)) (pair-found 0x32)
+
+    abbrev inside : List ℕ
+    inside = bytesFrom (s .memory) (t .flash) (t .first) (t .last)
+
+    pub hears-blank : blank inside ≡ true → hears chip s (blankCommand t) ≡ out (rest Command Idle (s .options) (s .memory)) (one 0x06)
+    unfolding commands rows lookup orderChecks done
+    hears-blank e =
+        hears-well chip s Command fresh-waiting (waiting-task chip s w) 0x32 (pairBytes t ++ (0x00 ∷ [])) (omega arith) refl (BlankCheck (t .flash) (t .first) (t .last) 0) blank-read
+        (passed _ _ _ _ (ap not e) ∙ passed _ _ _ _ refl ∙ none-applies _)
+
+    pub hears-used : blank inside ≡ false → hears chip s (blankCommand t) ≡ out (rest Command Idle (s .options) (s .memory)) (one 0x1B)
+    unfolding commands rows lookup orderChecks
+    hears-used e =
+        hears-refused chip s Command fresh-waiting (waiting-task chip s w) 0x32 (pairBytes t ++ (0x00 ∷ [])) (omega arith) refl (BlankCheck (t .flash) (t .first) (t .last) 0) blank-read
+        (NotBlank (usedIn (s .memory) (t .flash) (t .first) (t .last))) (λ z. omega arith) (applies _ _ _ _ (ap not e))
+
+  -- Security Set
+  module _ (t : Step) where
+    abbrev set : Options
+    set = securitySet (t .flags .sf1) (t .flags .sf2) (s .options)
+
+    lock-heard : hears chip s (lockCommand t) ≡ quiet (secured set (rest Command (s .task) (s .options) (s .memory)))
+    unfolding commands rows lookup readAs frame orderChecks done
+    lock-heard =
+        hears-well chip s Command fresh-waiting (waiting-task chip s w) 0xA0 (t .flags .sf1 ∷ t .flags .sf2 ∷ 0x00 ∷ []) (omega arith) refl (SecuritySet (t .flags .sf1) (t .flags .sf2)) refl (none-applies _)
+
+    -- answered, or, where IFPR is then 0, not
+    pub hears-lock : IFPR set ≡ 1 → hears chip s (lockCommand t) ≡ out (rest Command Idle set (s .memory)) (one 0x06)
+    unfolding secured
+    hears-lock i = lock-heard ∙ rw (ne-eqb (IFPR set) 0 (λ z. omega (arith, z, i)))
+
+    pub hears-shut : IFPR set ≡ 0 → hears chip s (lockCommand t) ≡ out (rest Silent Idle set (s .memory)) []
+    unfolding secured
+    hears-shut z = lock-heard ∙ rw (eq-eqb (IFPR set) 0 z)
 
 -- ---- data frames ----
 

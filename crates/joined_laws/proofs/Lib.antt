@@ -1,6 +1,7 @@
 pub mod Frames
 pub mod FramesHeard
 pub mod LengthsKept
+pub mod Open
 pub mod MeaningBounds
 pub mod MeaningSteps
 pub mod Opened
@@ -10,3 +11,4 @@ pub mod Run
 pub mod Sizes
 pub mod Steps
 pub mod Turns
+pub mod Silent

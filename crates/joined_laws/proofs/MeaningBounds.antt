@@ -8,14 +8,14 @@ use lib.Dec.{eqb, leb}
 use lib.ListN.{getD, set, replicate}
 use Rattle.rules.specs.declared.Chip.{Chip}
 use Rattle.rules.specs.declared.Kind.{Kind}
-use Rattle.rules.specs.declared.Kind.the-variants.{Erase, Write, Verify, Sum}
+use Rattle.rules.specs.declared.Kind.the-variants.{Erase, Write, Verify, Sum, Blank, Lock}
 use Rattle.rules.specs.declared.Options.{Options}
 use Rattle.rules.specs.declared.Step.{Step}
 use Rattle.rules.specs.declared.Verdict.the-variants.{Accepted}
 use Rattle.rules.specs.Chip.{Memory, blank, block, eraseBlock, firstPage, pageOf, putPage, blockOfPage}
 use Rattle.rules.specs.Options.{eraseProtected, writeProtected}
 use Rattle.rules.specs.Sheet.{count, verdict, stepAt, stepBlocks, stepPages, bodyPage}
-use Rattle.rules.specs.Meaning.{Tried, tried, eraseFrom, writeFrom, Done, eraseDone, writePieces, writeDone, stepDone, stepMeaning, Ended, ended, meaningFrom, meaning, stepFramesFrom, stepFrames}
+use Rattle.rules.specs.Meaning.{Tried, tried, eraseFrom, writeFrom, Done, eraseDone, writePieces, writeDone, stepDone, stepMeaning, optionsAfter, Ended, ended, meaningFrom, meaning, stepFramesFrom, stepFrames}
 use Rattle.rules.specs.Run.{mostFor, mostFrames}
 use Rattle.sheet.proofs.Accepted.{sound}
 use Rattle.joined_laws.specs.Turns.{Sized}
@@ -77,6 +77,8 @@ step-few o s t m = go (t .kind)
     go Write = write-few (stepPages t) (writeFrom o s t m 0 (stepPages t)) (omega (arith, written-few o s t m 0 (stepPages t)))
     go Verify = record { frames = omega arith; pieces = omega arith }
     go Sum = record { frames = omega arith; pieces = omega arith }
+    go Blank = record { frames = omega arith; pieces = omega arith }
+    go Lock = record { frames = omega arith; pieces = omega arith }
 
 -- ---- a whole sheet ----
 
@@ -99,56 +101,64 @@ pub record Counts (steps frames pieces : ℕ) (e : Ended) : Type 0 where
   pub few-frames : e .report .frames ≤ frames
   pub few-pieces : e .report .pieces ≤ pieces
 
-module _ (chip : Chip) (sized : Sized chip) (s : List ℕ) (room : ℕ) (ok : verdict chip s room ≡ Accepted) (o : Options) where
+module _ (chip : Chip) (sized : Sized chip) (s : List ℕ) (room : ℕ) (ok : verdict chip s room ≡ Accepted) where
   -- a step of it
-  at-most : (i : ℕ) → i < count s → (m : Memory) → Few 65537 (stepMeaning o s (stepAt chip s i) m)
-  at-most i h m =
+  at-most : (o : Options) (i : ℕ) → i < count s → (m : Memory) → Few 65537 (stepMeaning o s (stepAt chip s i) m)
+  at-most o i h m =
       let t = stepAt chip s i in
       let f = step-few o s t m in
       let n = few-frames chip s i t (sound chip s room ok i h) sized in
       record { frames = omega (arith, n, f .frames); pieces = omega (arith, n, f .pieces) }
 
-  counts-from : (left i n : ℕ) (m : Memory) (sums : List ℕ) → i + left ≡ count s
+  counts-from : (left i n : ℕ) (o : Options) (m : Memory) (sums : List ℕ) → i + left ≡ count s
       → Counts (i + left) (n + left * 65537) 65537 (meaningFrom chip s o m i n sums left)
   unfolding meaningFrom
-  counts-from zero i n m sums e = record { few-steps = omega arith; few-frames = omega arith; few-pieces = omega arith }
-  counts-from (suc left) i n m sums e = go (eqb (d .status) 0x06) (at-most i (omega arith) m) (counts-from left (i + 1) (n + d .frames) (d .memory) (set sums i (d .sum)) (omega arith))
+  counts-from zero i n o m sums e = record { few-steps = omega arith; few-frames = omega arith; few-pieces = omega arith }
+  counts-from (suc left) i n o m sums e =
+      go (eqb (d .status) 0x06) (at-most o i (omega arith) m) (counts-from left (i + 1) (n + d .frames) after (d .memory) (set sums i (d .sum)) (omega arith))
     where
+      after : Options
+      after = optionsAfter (stepAt chip s i) o
+
       d : Done
       d = stepMeaning o s (stepAt chip s i) m
 
       on : Ended
-      on = meaningFrom chip s o (d .memory) (i + 1) (n + d .frames) (set sums i (d .sum)) left
+      on = meaningFrom chip s after (d .memory) (i + 1) (n + d .frames) (set sums i (d .sum)) left
 
       go : (b : Bool) → Few 65537 d → Counts (i + 1 + left) (n + d .frames + left * 65537) 65537 on
-          → Counts (i + suc left) (n + suc left * 65537) 65537 (cond b on (ended (d .memory) o (d .status) i (n + d .frames) (d .pieces) sums))
+          → Counts (i + suc left) (n + suc left * 65537) 65537 (cond b on (ended (d .memory) after (d .status) i (n + d .frames) (d .pieces) sums))
       go true f c = record { few-steps = omega (arith, c .few-steps); few-frames = omega (arith, c .few-frames, f .frames); few-pieces = c .few-pieces }
       go false f c = record { few-steps = omega arith; few-frames = omega (arith, f .frames); few-pieces = f .pieces }
 
-  pub meaning-few : (m : Memory) (sums : List ℕ) → Counts (count s) (count s * 65537) 65537 (meaning chip s o m sums)
+  pub meaning-few : (o : Options) (m : Memory) (sums : List ℕ) → Counts (count s) (count s * 65537) 65537 (meaning chip s o m sums)
   unfolding meaning
-  meaning-few m sums =
-      let c = counts-from (count s) 0 0 m sums (omega arith) in
+  meaning-few o m sums =
+      let c = counts-from (count s) 0 0 o m sums (omega arith) in
       record { few-steps = omega (arith, c .few-steps); few-frames = omega (arith, c .few-frames); few-pieces = c .few-pieces }
 
-  each-from : (left i : ℕ) (m : Memory) (each : List ℕ) → i + left ≡ count s → ((j : ℕ) → getD each j 0 ≤ 65537)
+  each-from : (left i : ℕ) (o : Options) (m : Memory) (each : List ℕ) → i + left ≡ count s → ((j : ℕ) → getD each j 0 ≤ 65537)
       → (j : ℕ) → getD (stepFramesFrom chip s o m i each left) j 0 ≤ 65537
   unfolding stepFramesFrom
-  each-from zero i m each e g = g
-  each-from (suc left) i m each e g = go (eqb (d .status) 0x06) put (each-from left (i + 1) (d .memory) (set each i (d .frames)) (omega arith) put)
+  each-from zero i o m each e g = g
+  each-from (suc left) i o m each e g =
+      go (eqb (d .status) 0x06) put (each-from left (i + 1) after (d .memory) (set each i (d .frames)) (omega arith) put)
     where
+      after : Options
+      after = optionsAfter (stepAt chip s i) o
+
       d : Done
       d = stepMeaning o s (stepAt chip s i) m
 
       put : (j : ℕ) → getD (set each i (d .frames)) j 0 ≤ 65537
-      put = set-few 65537 each i (d .frames) (at-most i (omega arith) m .frames) g
+      put = set-few 65537 each i (d .frames) (at-most o i (omega arith) m .frames) g
 
       go : (b : Bool) → ((j : ℕ) → getD (set each i (d .frames)) j 0 ≤ 65537)
-          → ((j : ℕ) → getD (stepFramesFrom chip s o (d .memory) (i + 1) (set each i (d .frames)) left) j 0 ≤ 65537)
-          → (j : ℕ) → getD (cond b (stepFramesFrom chip s o (d .memory) (i + 1) (set each i (d .frames)) left) (set each i (d .frames))) j 0 ≤ 65537
+          → ((j : ℕ) → getD (stepFramesFrom chip s after (d .memory) (i + 1) (set each i (d .frames)) left) j 0 ≤ 65537)
+          → (j : ℕ) → getD (cond b (stepFramesFrom chip s after (d .memory) (i + 1) (set each i (d .frames)) left) (set each i (d .frames))) j 0 ≤ 65537
       go true h f = f
       go false h f = h
 
-  pub each-few : (m : Memory) (each : List ℕ) → ((j : ℕ) → getD each j 0 ≤ 65537) → (j : ℕ) → getD (stepFrames chip s o m each) j 0 ≤ 65537
+  pub each-few : (o : Options) (m : Memory) (each : List ℕ) → ((j : ℕ) → getD each j 0 ≤ 65537) → (j : ℕ) → getD (stepFrames chip s o m each) j 0 ≤ 65537
   unfolding stepFrames
-  each-few m each g = each-from (count s) 0 m each (omega arith) g
+  each-few o m each g = each-from (count s) 0 o m each (omega arith) g

@@ -12,17 +12,17 @@ use Rattle.rules.specs.declared.Options.{Options}
 use Rattle.rules.specs.declared.Pages.{Pages}
 use Rattle.rules.specs.declared.Fault.the-variants.{Difference}
 use Rattle.rules.specs.declared.Kind.{Kind}
-use Rattle.rules.specs.declared.Kind.the-variants.{Erase, Write, Verify, Sum}
+use Rattle.rules.specs.declared.Kind.the-variants.{Erase, Write, Verify, Sum, Blank, Lock}
 use Rattle.rules.specs.declared.Step.{Step}
 use Rattle.rules.specs.Chip.{Memory, block, flashOf, blockSize, firstPage, pageSize, pageOf, partOf, blank, same, eraseBlock, bytesFrom, checksum}
-use Rattle.rules.specs.Options.{eraseProtected}
+use Rattle.rules.specs.Options.{eraseProtected, securitySet}
 use Rattle.rules.specs.First.{rule, first, firstFault}
 use Rattle.rules.specs.Frame.{statusByte}
 use Rattle.rules.specs.StandIn.{pageFault, pageWritten, pageGuarded, later, compared}
 use Rattle.rules.specs.Sheet.{stepBlocks, stepPages, stepBody, bodyPage}
-use Rattle.rules.specs.Meaning.{tried, eraseFrom, writeFrom, done, eraseDone, writePieces, writeDone, stepDone, stepMeaning}
+use Rattle.rules.specs.Meaning.{tried, eraseFrom, writeFrom, done, eraseDone, writePieces, writeDone, stepDone, stepMeaning, optionsBy, optionsAfter}
 use Rattle.chip_finder.proofs.Geometry.{blocks-in-pages}
-use Rattle.joined_laws.specs.Turns.{pagesAt, writeOn, sameFrom, verifyOn}
+use Rattle.joined_laws.specs.Turns.{pagesAt, writeOn, sameFrom, verifyOn, leaves, stepLeaves}
 
 -- ---- erase ----
 
@@ -213,24 +213,34 @@ module _ (s : List ℕ) (t : Step) (m : Memory) where
         go true false = refl
         go false c = refl
 
--- ---- a step, by its kind ----
+-- ---- what a step leaves, by its kind: only a lock changes the options ----
 
 module _ (o : Options) (s : List ℕ) (t : Step) (m : Memory) where
-  pub erase-means : t .kind ≡ Erase → stepMeaning o s t m ≡ eraseDone (eraseFrom o t m 0 (stepBlocks t))
-  unfolding stepMeaning stepDone
+  pub erase-means : t .kind ≡ Erase → stepLeaves o s t m ≡ leaves (eraseDone (eraseFrom o t m 0 (stepBlocks t))) o
+  unfolding stepMeaning stepDone optionsAfter optionsBy
   erase-means k = rw k
 
-  pub write-means : t .kind ≡ Write → stepMeaning o s t m ≡ writeOn o s t m 0 (stepPages t) 0x06
-  unfolding stepMeaning stepDone
+  pub write-means : t .kind ≡ Write → stepLeaves o s t m ≡ leaves (writeOn o s t m 0 (stepPages t) 0x06) o
+  unfolding stepMeaning stepDone optionsAfter optionsBy
   write-means k = rw k
 
   pub verify-means : t .kind ≡ Verify → firstPage (t .flash) (t .first) * pageSize + stepPages t * pageSize ≤ length (flashOf m (t .flash))
-      → t .body + stepPages t * pageSize ≤ length s → stepMeaning o s t m ≡ verifyOn s t m 0 (stepPages t) 0x06
-  unfolding stepMeaning stepDone
+      → t .body + stepPages t * pageSize ≤ length s → stepLeaves o s t m ≡ leaves (verifyOn s t m 0 (stepPages t) 0x06) o
+  unfolding stepMeaning stepDone optionsAfter optionsBy
   verify-means k h g =
-      ap (λ (x : Kind). stepDone x o s t m) k
-      ∙ ap (λ (b : Bool). done m (cond b 0x06 0x0F) 0 (1 + stepPages t) 0) (same-all s t m h g)
+      ap (λ (x : Kind). leaves (stepDone x o s t m) (optionsBy x t o)) k
+      ∙ ap (λ (b : Bool). leaves (done m (cond b 0x06 0x0F) 0 (1 + stepPages t) 0) o) (same-all s t m h g)
 
-  pub sum-means : t .kind ≡ Sum → stepMeaning o s t m ≡ done m 0x06 0 1 (checksum (bytesFrom m (t .flash) (t .first) (t .last)))
-  unfolding stepMeaning stepDone
+  pub sum-means : t .kind ≡ Sum
+      → stepLeaves o s t m ≡ leaves (done m 0x06 0 1 (checksum (bytesFrom m (t .flash) (t .first) (t .last)))) o
+  unfolding stepMeaning stepDone optionsAfter optionsBy
   sum-means k = rw k
+
+  pub blank-means : t .kind ≡ Blank
+      → stepLeaves o s t m ≡ leaves (done m (cond (blank (bytesFrom m (t .flash) (t .first) (t .last))) 0x06 0x1B) 0 1 0) o
+  unfolding stepMeaning stepDone optionsAfter optionsBy
+  blank-means k = rw k
+
+  pub lock-means : t .kind ≡ Lock → stepLeaves o s t m ≡ leaves (done m 0x06 0 1 0) (securitySet (t .flags .sf1) (t .flags .sf2) o)
+  unfolding stepMeaning stepDone optionsAfter optionsBy
+  lock-means k = rw k

@@ -30,6 +30,7 @@ use Rattle.standin.specs.Opening.{speedBytes, openingBytes}
 use Rattle.joined_laws.specs.Hears.{hears}
 use Rattle.joined_laws.specs.Released.{Good, speedAt}
 use Rattle.joined_laws.proofs.FramesHeard.{Fresh, hears-well, rest-waits}
+use Rattle.joined_laws.proofs.Open.{ifpr-one}
 use Rattle.joined_laws.specs.Turns.{Fit}
 
 -- bytes behind others
@@ -105,4 +106,4 @@ module _ (chip : Chip) (o : Options) (m : Memory) where
         go false = refl
 
     pub opened-waits : waits chip (feed chip (powered o m) (openingBytes o (identOf m)) .state) ≡ true
-    opened-waits = ap (waits chip) opens ∙ rest-waits chip o m
+    opened-waits = ap (waits chip) opens ∙ rest-waits chip o m (ifpr-one o n)

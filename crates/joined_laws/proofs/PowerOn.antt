@@ -23,6 +23,7 @@ use Rattle.joined_laws.proofs.LengthsKept.{feed-kept}
 use Rattle.joined_laws.proofs.Opened.{ident-there, opens}
 use Rattle.joined_laws.proofs.Run.{some-code, known-run}
 use Rattle.joined_laws.proofs.FramesHeard.{rest-waits}
+use Rattle.joined_laws.proofs.Open.{ifpr-one}
 
 module _ (chip : Chip) (o : Options) (m : Memory) (fit : Fit chip m) (s frame reply sums : List ℕ) (ok : verdict chip s (length sums) ≡ Accepted) where
   -- EVERY LIST OF BYTES after a power-on that leads to a stand-in that waits
@@ -38,4 +39,4 @@ module _ (chip : Chip) (o : Options) (m : Memory) (fit : Fit chip m) (s frame re
       × Comes chip (meaning chip s o m sums) (run clean chip s (joinedAtStart there frame reply sums))
   from-opening n =
       let e = opens chip o m (ident-there chip m (some-code chip (chip-known chip s (length sums) ok)) fit) n in
-      (e, rw e (known-run chip s (joinedAtStart (rest Command Idle o m) frame reply sums) refl ok (rest-waits chip o m) fit))
+      (e, rw e (known-run chip s (joinedAtStart (rest Command Idle o m) frame reply sums) refl ok (rest-waits chip o m (ifpr-one o n)) fit))

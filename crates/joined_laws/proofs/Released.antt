@@ -103,9 +103,9 @@ module _ (chip : Chip) (k : known chip ≡ true) (o : Options) (m : Memory) (fit
 
   -- RELEASED, FROM A POWER-ON
   pub opened-still-asks : StillAsks chip there
-  opened-still-asks = rw came (still-asks chip (rest Command Idle o m) (rest-waits chip o m) asked)
+  opened-still-asks = rw came (still-asks chip (rest Command Idle o m) (rest-waits chip o m free) asked)
 
   -- and A2h is answered so where SEPR and BTPR are 1
   pub opened-released : SEPR o ≡ 1 → BTPR o ≡ 1 → hears chip there releaseBytes ≡ out (rest Command Idle (release o) m) ack
   opened-released erasable writable =
-      rw came (release-heard chip (rest Command Idle o m) (rest-waits chip o m) blank erasable writable)
+      rw came (release-heard chip (rest Command Idle o m) (rest-waits chip o m free) blank erasable writable)

@@ -16,15 +16,18 @@ use Rattle.rules.specs.declared.Report.{Report}
 use Rattle.rules.specs.declared.Stage.the-variants.{New, Over}
 use Rattle.rules.specs.declared.Verdict.the-variants.{Accepted}
 use Rattle.rules.specs.Chip.{small, large, known, start, blocks, flashSize}
+use Rattle.rules.specs.Options.{IFPR}
 use Rattle.rules.specs.Sheet.{count, verdict, stepAt}
 use Rattle.rules.specs.Meaning.{Done, Ended, ended, stepMeaning, meaningFrom, meaning}
 use Rattle.rules.specs.Player.{player, well, Absorbed, beginning, started, Sent, reportOf, reportBy}
 use Rattle.rules.specs.Run.{clean, Joined, joining, takenIn, Ran, ran, none, runFrom, mostFrom, mostCalls, run, stepRun, waits}
 use Rattle.rules.proofs.Sheet.{chip-known}
 use Rattle.chip_finder.proofs.Known.{known-chip}
-use Rattle.sheet.proofs.Accepted.{whole}
+use Rattle.sheet.proofs.Accepted.{whole, sound}
 use Rattle.player_laws.proofs.Moves.{absorb-new, emit-over}
-use Rattle.joined_laws.specs.Turns.{Sized, Fit, Settled, mostCounted, AtBeginning, Leaves, leaves, StepEnds, StepRuns, endOf, Comes, Means}
+use Rattle.joined_laws.specs.Turns.{Sized, Fit, Settled, mostCounted, AtBeginning, Leaves, stepLeaves, StepEnds, StepRuns, endOf, Comes, Means}
+use Rattle.joined_laws.proofs.FramesHeard.{waiting-open, settled-waits, waits-settled}
+use Rattle.joined_laws.proofs.Open.{step-leaves-open}
 use Rattle.joined_laws.proofs.Sizes.{few-from}
 use Rattle.joined_laws.proofs.Steps.{step-ends}
 
@@ -58,18 +61,22 @@ module _ (chip : Chip) (s : List ℕ) where
     pub counts : n + mostFrom chip s i left ≤ mostCounted
     pub enough : mostFrom chip s i left < calls
     pub settled : Settled chip (j .state)
+    pub waiting : 0 < left → waits chip (j .state) ≡ true
     pub fit : Fit chip (j .state .memory)
 
   -- what that step comes to
   abbrev pub doneAt : ℕ → Joined → Done
   doneAt i j = stepMeaning (j .state .options) s (stepAt chip s i) (j .state .memory)
 
+  abbrev pub leavesAt : ℕ → Joined → Leaves
+  leavesAt i j = stepLeaves (j .state .options) s (stepAt chip s i) (j .state .memory)
+
   -- that step was played: how it ended, and where the run stands behind it
   pub record Played (i n left c calls : ℕ) (j : Joined) : Type 0 where
     pub begins : AtBeginning chip s j
     pub end : Joined
     pub ran : stepRun clean chip s c j ≡ ran true end
-    pub ends : StepEnds chip s i n (j .sums) (leaves (doneAt i j) (j .state .options)) end
+    pub ends : StepEnds chip s i n (j .sums) (leavesAt i j) end
     pub some : 0 < calls - doneAt i j .frames
     pub goes-on : runFrom clean chip s c calls j ≡ runFrom clean chip s (c + doneAt i j .frames) (calls - doneAt i j .frames) end
     pub stands : ((doneAt i j .status ≡ 0x06 → ⊥) × (end .player .stage ≡ Over))
@@ -94,7 +101,7 @@ module _ (chip : Chip) (s : List ℕ) where
     d = doneAt i j
 
     abbrev e : Leaves
-    e = leaves d (j .state .options)
+    e = leavesAt i j
 
     -- the player's record, written out
     abbrev there : Joined
@@ -110,7 +117,7 @@ module _ (chip : Chip) (s : List ℕ) where
           stage = rw (ne-eqb i (count s) (omega (arith, b .all)));
           there = omega (arith, b .all);
           counts = omega (arith, b .counts);
-          waiting = b .settled;
+          waiting = b .waiting (omega arith);
           fit = b .fit;
         }
 
@@ -135,6 +142,12 @@ module _ (chip : Chip) (s : List ℕ) where
     goes-on =
         ap (runFrom clean chip s c calls) there-is ∙ ap (λ (x : ℕ). runFrom clean chip s c x there) (omega (arith, enough-after)) ∙ now .within after
 
+    -- a lock that clears IFPR stands last, so a step that has others behind it leaves it 1
+    still-open : 0 < left → IFPR (e .options) ≡ 1
+    still-open more =
+        step-leaves-open (stepAt chip s i) (j .state .options) (waiting-open chip (j .state) (b .waiting (omega arith)))
+        (λ k c. omega (arith, sound chip s room ok i (omega (arith, b .all)) .ends k c, b .all))
+
     next : d .status ≡ 0x06 → Before (i + 1) (n + d .frames) left after end
     unfolding mostFrom
     next st =
@@ -144,6 +157,7 @@ module _ (chip : Chip) (s : List ℕ) where
           counts = omega (arith, now .most, b .counts);
           enough = enough-after;
           settled = ends .left .settled;
+          waiting = λ more. settled-waits chip (end .state) (ends .left .settled) (ap IFPR (ends .left .options) ∙ still-open more);
           fit = ends .left .fit;
         }
 
@@ -195,12 +209,12 @@ module _ (chip : Chip) (s : List ℕ) (j : Joined) where
   begun-as new =
       ap (λ (a : Absorbed). joining (a .player) (j .state) (a .sums) (j .frame) (j .reply) (j .arrived)) (absorb-new chip s (j .player) (j .arrived) (j .sums) new)
 
-  pub before-first : Sized chip → (room : ℕ) → verdict chip s room ≡ Accepted → j .player ≡ started s → Settled chip (j .state)
+  pub before-first : Sized chip → (room : ℕ) → verdict chip s room ≡ Accepted → j .player ≡ started s → waits chip (j .state) ≡ true
       → Fit chip (j .state .memory) → Before chip s 0 0 (count s) (mostCalls chip s) j
-  before-first sized room ok at settled fit =
+  before-first sized room ok at w fit =
       let few = few-from chip sized s room ok (count s) 0 (omega arith) in
       let short = whole chip s room ok .steps in
-      record { at = at; all = omega arith; counts = omega arith; enough = omega arith; settled = settled; fit = fit }
+      record { at = at; all = omega arith; counts = omega arith; enough = omega arith; settled = waits-settled chip (j .state) w; waiting = λ _. w; fit = fit }
 
 -- THE THEOREM: the clean run of a new player and a stand-in that waits for a command comes to the meaning of the sheet
 pub run-means : (chip : Chip) → Sized chip → (s : List ℕ) (j : Joined) → j .player .stage ≡ New → verdict chip s (length (j .sums)) ≡ Accepted

@@ -10,7 +10,7 @@ use Rattle.rules.specs.declared.Chip.{Chip}
 use Rattle.rules.specs.declared.Flash.{Flash}
 use Rattle.rules.specs.declared.Flash.the-variants.{Code, Data}
 use Rattle.rules.specs.declared.Kind.{Kind}
-use Rattle.rules.specs.declared.Kind.the-variants.{Erase, Write, Verify, Sum}
+use Rattle.rules.specs.declared.Kind.the-variants.{Erase, Write, Verify, Sum, Blank, Lock}
 use Rattle.rules.specs.declared.Step.{Step}
 use Rattle.rules.specs.declared.Verdict.the-variants.{Accepted}
 use Rattle.rules.specs.declared.Block.{Block}
@@ -77,6 +77,8 @@ module _ (chip : Chip) (s : List ℕ) (i : ℕ) (t : Step) (k : Sound chip s i t
       go Write = omega (arith, sized .few (t .flash), in-pages chip (t .flash), step-pages)
       go Verify = omega (arith, sized .few (t .flash), in-pages chip (t .flash), step-pages)
       go Sum = omega arith
+      go Blank = omega arith
+      go Lock = omega arith
 
 -- so many steps of an accepted sheet
 pub few-from : (chip : Chip) → Sized chip → (s : List ℕ) (room : ℕ) → verdict chip s room ≡ Accepted

@@ -7,7 +7,7 @@ use Prim.Native.Nat.{ℕ, zero, suc, _+_, _<_, _≤_}
 use native.Mathlib.Omega.{arith}
 use Rattle.rules.specs.declared.Chip.{Chip}
 use Rattle.rules.specs.declared.Kind.{Kind}
-use Rattle.rules.specs.declared.Kind.the-variants.{Erase, Write, Verify, Sum}
+use Rattle.rules.specs.declared.Kind.the-variants.{Erase, Write, Verify, Sum, Blank, Lock}
 use Rattle.rules.specs.declared.Options.{Options}
 use Rattle.rules.specs.declared.Phase.{Phase}
 use Rattle.rules.specs.declared.Phase.the-variants.{Command}
@@ -21,8 +21,8 @@ use Rattle.rules.specs.Run.{clean, Joined, turned, ran, none, runFrom, stepFrom
 use Rattle.sheet.proofs.Accepted.{Sound, sound}
 use Rattle.joined_laws.specs.Turns.{Sized, AtBeginning, Leaves, leaves, stepLeaves, StepEnds, StepRuns}
 use Rattle.joined_laws.proofs.MeaningSteps.{erase-means}
-use Rattle.joined_laws.proofs.FramesHeard.{waiting-phase, waiting-got}
-use Rattle.joined_laws.proofs.Turns.{Begun, At, AtBlock, AtOpen, AtOnce, Mid, Turned, Ends, Goes, mid-frame, turn, sum-once}
+use Rattle.joined_laws.proofs.FramesHeard.{waiting-phase, waiting-got, waiting-open}
+use Rattle.joined_laws.proofs.Turns.{Begun, At, AtBlock, AtOpen, AtOnce, Mid, Turned, Ends, Goes, mid-frame, turn, sum-once, blank-once, lock-once}
 
 -- ---- the beginning of a step ----
 
@@ -59,6 +59,8 @@ module _ (chip : Chip) (sized : Sized chip) (s : List ℕ) (room : ℕ) (ok : ve
   some-for Write = omega arith
   some-for Verify = omega arith
   some-for Sum = omega arith
+  some-for Blank = omega arith
+  some-for Lock = omega arith
 
   begun : Begun chip s i (j .player .frames) o (j .sums) (stepLeaves o s t m) (j .player) (j .state .task) m
   begun = record { stage = b .stage; frames = refl; waiting = waiting }
@@ -66,11 +68,12 @@ module _ (chip : Chip) (sized : Sized chip) (s : List ℕ) (room : ℕ) (ok : ve
   begin-at : (x : Kind) → t .kind ≡ x → At chip s i (j .player .frames) o (j .sums) (stepLeaves o s t m) (mostFor x t) (j .player) (j .state .task) m
   unfolding mostFor
   begin-at Erase k =
-      AtBlock k 0 (inl (b .stage, refl)) waiting (omega arith) (omega arith) (ap (λ d. leaves d o) (erase-means o s t m k))
+      AtBlock k 0 (inl (b .stage, refl)) waiting (omega arith) (omega arith) (erase-means o s t m k)
   begin-at Write k = AtOpen (inl k) begun refl refl
   begin-at Verify k = AtOpen (inr k) begun refl refl
-  begin-at Sum k =
-      AtOnce begun refl (sum-once chip s i _ o _ _ sized known k (j .player) refl (j .state .task) m (b .fit) begun refl)
+  begin-at Sum k = AtOnce begun refl (sum-once chip s i _ o _ _ sized known (j .player) refl (j .state .task) m (b .fit) begun refl k)
+  begin-at Blank k = AtOnce begun refl (blank-once chip s i _ o _ _ sized known (j .player) refl (j .state .task) m (b .fit) begun refl k)
+  begin-at Lock k = AtOnce begun refl (lock-once chip s i _ o _ _ sized known (j .player) refl (j .state .task) m (b .fit) begun refl k)
 
   -- A STEP BEGINS, and comes to its meaning
   pub begin : Mid chip s i (j .player .frames) o (j .sums) (stepLeaves o s t m) (mostFrames t) j
@@ -83,6 +86,7 @@ module _ (chip : Chip) (sized : Sized chip) (s : List ℕ) (room : ℕ) (ok : ve
         list = refl;
         state = rests;
         fit = b .fit;
+        ifpr = waiting-open chip (j .state) (b .waiting);
         counts = b .counts;
         at = begin-at (t .kind) refl;
       }

@@ -12,10 +12,10 @@ use borrow.Author.Tests.{eqb-true, eqb-false, lt-ltb, le-leb, eq-eqb, ne-eqb}
 use Rattle.rules.specs.declared.Block.{Block}
 use Rattle.rules.specs.declared.Chip.{Chip}
 use Rattle.rules.specs.declared.Kind.{Kind}
-use Rattle.rules.specs.declared.Kind.the-variants.{Erase, Write, Verify, Sum}
+use Rattle.rules.specs.declared.Kind.the-variants.{Erase, Write, Verify, Sum, Blank, Lock}
 use Rattle.rules.specs.declared.Options.{Options}
 use Rattle.rules.specs.declared.Pages.{Pages}
-use Rattle.rules.specs.declared.Phase.the-variants.{Command}
+use Rattle.rules.specs.declared.Phase.the-variants.{Command, Silent}
 use Rattle.rules.specs.declared.Player.{Player}
 use Rattle.rules.specs.declared.Stage.{Stage}
 use Rattle.rules.specs.declared.Stage.the-variants.{Ready, Commanded, Page, Paged, Over}
@@ -25,24 +25,25 @@ use Rattle.rules.specs.declared.Step.{Step}
 use Rattle.rules.specs.declared.Task.{Task}
 use Rattle.rules.specs.declared.Task.the-variants.{Idle, Programming, Verifying}
 use Rattle.rules.specs.declared.Verdict.the-variants.{Accepted}
-use Rattle.rules.specs.Chip.{Memory, addressBytes, firstByte, lastByte, wordBytes, over, blocks, block, eraseBlock, pages, pageSize, firstPage, bytesFrom, checksum}
-use Rattle.rules.specs.Options.{eraseProtected}
+use Rattle.rules.specs.Chip.{Memory, wordBytes, blank, over, blocks, block, eraseBlock, pages, pageSize, firstPage, bytesFrom, checksum}
+use Rattle.rules.specs.Options.{IFPR, eraseProtected, securitySet}
 use Rattle.rules.specs.Frame.{dataStart, lastEnd, endDue, lenByte, sumByte, frame, one, pair}
 use Rattle.rules.specs.StandIn.{State, Out, out, rest, startOf, taskNow, later, pageGuarded, ahead}
-use Rattle.rules.specs.Sheet.{count, verdict, stepAt, stepBlocks, stepPages, bodyPage}
+use Rattle.rules.specs.Sheet.{count, verdict, clears, stepAt, stepBlocks, stepPages, bodyPage}
 use Rattle.rules.specs.Meaning.{eraseFrom, done, eraseDone}
-use Rattle.rules.specs.Player.{player, well, Absorbed, stopped, goesOn, finished, pagesSure, absorbed, Sent, counted, sends, emitted, reportOf, reportBy, command, pairCommand, blockCommand, firstCommand, lost}
-use Rattle.rules.specs.Run.{Line, clean, Joined, joining, carried, takenIn, turned, betweenIn, between, waits}
+use Rattle.rules.specs.Player.{player, well, Absorbed, stopped, goesOn, finished, pagesSure, lockReply, absorbCommand, absorbed, Sent, counted, sends, emitted, reportOf, reportBy, command, pairBytes, pairCommand, blockCommand, blankCommand, lockCommand, firstCommand, lost}
+use Rattle.rules.specs.Run.{Line, clean, Joined, joining, carried, takenIn, turned, betweenIn, between, waits, settled}
 use Rattle.chip_finder.proofs.Geometry.{blocks-in-pages, in-pages}
 use Rattle.sheet.proofs.Accepted.{Sound, Inside, sound, page-length}
-use Rattle.player_laws.proofs.Moves.{absorb-opened, absorb-sum, absorb-erase-stop, absorb-erase-on, absorb-erase-last, absorb-page-stop, absorb-page-on, absorb-page-last, emit-first, emit-block, emit-page}
+use Rattle.player_laws.proofs.Moves.{absorb-opened, absorb-once, absorb-once-stop, absorb-erase-stop, absorb-erase-on, absorb-erase-last, absorb-page-stop, absorb-page-on, absorb-page-last, emit-first, emit-block, emit-page}
 use Rattle.player_laws.proofs.PlaceInSheet.{stands-ready, stands-block, stands-page}
 use Rattle.player_laws.proofs.Replies.{command-one, data-well, sum-reply, sum-in}
 use Rattle.joined_laws.specs.Hears.{hears, pagesFor}
 use Rattle.joined_laws.specs.Turns.{Sized, Fit, mostCounted, Framed, pagesAt, writeOn, verifyOn, Leaves, leaves, stepLeaves, Left, StepEnds}
-use Rattle.joined_laws.proofs.MeaningSteps.{erase-on, erase-last, erase-stops, later-page, statusOf, memoryAfter, write-on, write-last, write-told, write-means, comparedAt, verify-on, verify-last, verify-means, sum-means}
+use Rattle.joined_laws.proofs.MeaningSteps.{erase-on, erase-last, erase-stops, later-page, statusOf, memoryAfter, write-on, write-last, write-told, write-means, comparedAt, verify-on, verify-last, verify-means, sum-means, blank-means, lock-means}
 use Rattle.frame_build.proofs.Built.{whole-framed}
-use Rattle.joined_laws.proofs.FramesHeard.{waiting-task, rest-waits, hears-erase-free, hears-erase-guarded, hears-program, hears-verify, hears-sum, hears-told, hears-page, hears-last, hears-compare, hears-compared}
+use Rattle.joined_laws.proofs.FramesHeard.{waiting-task, waiting-open, rest-waits, rest-settled, silent-settled, hears-erase-free, hears-erase-guarded, hears-program, hears-verify, hears-sum, hears-blank, hears-used, hears-lock, hears-shut, hears-told, hears-page, hears-last, hears-compare, hears-compared}
+use Rattle.joined_laws.proofs.Open.{lock-shuts, lock-leaves-open}
 use Rattle.joined_laws.proofs.Sizes.{fit-erased, fit-written, step-pages, step-some}
 
 -- ---- a turn, by what is sent, heard and taken in ----
@@ -105,13 +106,13 @@ module _ (chip : Chip) (s : List ℕ) (i n : ℕ) (o : Options) (sums : List ℕ
         ≡ cond (eqb (e .done .status) 0x06) (finished s p (e .done .sum) sums) (stopped p (Byte (e .done .status)) (e .done .pieces) sums)
 
   -- with a stand-in that waits again, its options as they were
-  told-waiting : (p : Player) (h : Out) (m : Memory) (answer : List ℕ) → h ≡ out (rest Command Idle o m) answer → Fit chip m
+  told-waiting : IFPR o ≡ 1 → (p : Player) (h : Out) (m : Memory) (answer : List ℕ) → h ≡ out (rest Command Idle o m) answer → Fit chip m
       → (st pieces frames sum : ℕ) → e ≡ leaves (done m st pieces frames sum) o → p .frames ≡ n + frames
       → absorbed chip s p answer sums ≡ cond (eqb st 0x06) (finished s p sum sums) (stopped p (Byte st) pieces sums)
       → Told p h
-  told-waiting p h m answer arrived fit st pieces frames sum q f took =
+  told-waiting i p h m answer arrived fit st pieces frames sum q f took =
       let left : Left chip (leaves (done m st pieces frames sum) o) (rest Command Idle o m) =
-      record { memory = refl; options = refl; settled = rest-waits chip o m; fit = fit } in
+      record { memory = refl; options = refl; settled = rest-settled chip o m i; fit = fit } in
       rw (arrived, q) (record { left = left; frames = f; taken = took })
 
   -- at the beginning of a step: the player is about to send a command, and the stand-in waits for one
@@ -152,6 +153,7 @@ module _ (chip : Chip) (s : List ℕ) (i n : ℕ) (o : Options) (sums : List ℕ
     pub list : j .sums ≡ sums
     pub state : j .state ≡ rest Command (j .state .task) o (j .state .memory)
     pub fit : Fit chip (j .state .memory)
+    pub ifpr : IFPR o ≡ 1
     pub counts : j .player .frames + k ≤ mostCounted
     pub at : At k (j .player) (j .state .task) (j .state .memory)
 
@@ -162,26 +164,116 @@ module _ (chip : Chip) (s : List ℕ) (i n : ℕ) (o : Options) (sums : List ℕ
 
   -- ---- the steps of one frame ----
 
-  pub sum-once : Sized chip → Sound chip s i now → now .kind ≡ Sum → (p : Player) → p .step ≡ i → (task : Task) (m : Memory) → Fit chip m
-      → Begun p task m → e ≡ stepLeaves o s now m → Once p (rest Command task o m)
-  unfolding firstCommand
-  sum-once sized fact kind p here task m fit b q =
-      let bytes = bytesFrom m (now .flash) (now .first) (now .last) in
-      let sum = checksum bytes in
-      let answer = one 0x06 ++ frame dataStart lastEnd (wordBytes sum) in
-      let a = awaiting (Commanded Sum) p 0 in
-      record {
-        stage = Commanded Sum;
-        code = 0xB0;
-        info = addressBytes (firstByte (now .flash) (now .first)) ++ addressBytes (lastByte (now .flash) (now .last));
-        few = omega arith;
-        sent = emit-first chip s p now (ap (stepAt chip s) here) (b .stage) kind;
-        told =
-            told-waiting a _ m answer (hears-sum chip sized (rest Command task o m) (b .waiting) now (fact .forward) (fact .there)) fit 0x06 0 1 sum
-            (q ∙ ap (λ d. leaves d o) (sum-means o s now m kind))
+  module _ (sized : Sized chip) (fact : Sound chip s i now) (p : Player) (here : p .step ≡ i) (task : Task) (m : Memory) (fit : Fit chip m)
+      (b : Begun p task m) (q : e ≡ stepLeaves o s now m) where
+    abbrev first : State
+    first = rest Command task o m
+
+    ifpr-open : IFPR o ≡ 1
+    ifpr-open = waiting-open chip first (b .waiting)
+
+    abbrev covered : List ℕ
+    covered = bytesFrom m (now .flash) (now .first) (now .last)
+
+    -- the command, and what its answer comes to
+    abbrev asker : Kind → Player
+    asker k = awaiting (Commanded k) p 0
+
+    sent-first : {k : Kind} → now .kind ≡ k → emitted chip s p ≡ sends (Commanded k) p 0 (firstCommand k now)
+    sent-first kind = emit-first chip s p now (ap (stepAt chip s) here) (b .stage) kind
+
+    pub sum-once : now .kind ≡ Sum → Once p first
+    unfolding firstCommand absorbCommand
+    sum-once kind =
+        let sum = checksum covered in
+        let answer = one 0x06 ++ frame dataStart lastEnd (wordBytes sum) in
+        let a = asker Sum in
+        record {
+          stage = Commanded Sum;
+          code = 0xB0;
+          info = pairBytes now;
+          few = omega arith;
+          sent = sent-first kind;
+          told =
+              told-waiting ifpr-open a _ m answer (hears-sum chip sized first (b .waiting) now (fact .forward) (fact .there)) fit 0x06 0 1 sum
+              (q ∙ sum-means o s now m kind)
+              (omega (arith, b .frames))
+              (absorb-once chip s a answer sums refl _ _ refl (sum-reply sum) ∙ ap (λ (x : ℕ). finished s a x sums) (sum-in sum (below covered)));
+        }
+
+    pub blank-once : now .kind ≡ Blank → Once p first
+    unfolding firstCommand absorbCommand
+    blank-once kind =
+        record {
+          stage = Commanded Blank;
+          code = 0x32;
+          info = pairBytes now ++ (0x00 ∷ []);
+          few = omega arith;
+          sent = sent-first kind;
+          told = go (blank covered) refl;
+        }
+      where
+        a : Player
+        a = asker Blank
+
+        means : (t : Bool) → blank covered ≡ t → e ≡ leaves (done m (cond t 0x06 0x1B) 0 1 0) o
+        means t h = q ∙ blank-means o s now m kind ∙ ap (λ (t : Bool). leaves (done m (cond t 0x06 0x1B) 0 1 0) o) h
+
+        go : (t : Bool) → blank covered ≡ t → Told a (hears chip first (blankCommand now))
+        go true h =
+            told-waiting ifpr-open a _ m (one 0x06) (hears-blank chip sized first (b .waiting) now (fact .forward) (fact .there) h) fit 0x06 0 1 0
+            (means true h)
             (omega (arith, b .frames))
-            (absorb-sum chip s a answer sums refl (sum-reply sum) ∙ ap (λ (x : ℕ). finished s a x sums) (sum-in sum (below bytes)));
-      }
+            (absorb-once chip s a (one 0x06) sums refl _ _ refl (command-one 0x06))
+        go false h =
+            told-waiting ifpr-open a _ m (one 0x1B) (hears-used chip sized first (b .waiting) now (fact .forward) (fact .there) h) fit 0x1B 0 1 0
+            (means false h)
+            (omega (arith, b .frames))
+            (absorb-once-stop chip s a (one 0x1B) sums refl _ _ refl (rw (command-one 0x1B)) ∙ rw (command-one 0x1B))
+
+    -- a lock that clears IFPR gets no answer, and none is due
+    pub lock-once : now .kind ≡ Lock → Once p first
+    unfolding firstCommand absorbCommand lockReply
+    lock-once kind =
+        record {
+          stage = Commanded Lock;
+          code = 0xA0;
+          info = now .flags .sf1 ∷ now .flags .sf2 ∷ 0x00 ∷ [];
+          few = omega arith;
+          sent = sent-first kind;
+          told = go (clears (now .flags)) refl;
+        }
+      where
+        a : Player
+        a = asker Lock
+
+        set : Options
+        set = securitySet (now .flags .sf1) (now .flags .sf2) o
+
+        stands : stepAt chip s (a .step) ≡ now
+        stands = refl
+
+        left : (x : State) → x .memory ≡ m → x .options ≡ set → settled chip x ≡ true → Left chip (leaves (done m 0x06 0 1 0) set) x
+        left x f g h = record { memory = f; options = g; settled = h; fit = rw f fit }
+
+        told : (h : Out) (x : State) (answer : List ℕ) → h ≡ out x answer → x .memory ≡ m → x .options ≡ set → settled chip x ≡ true
+            → lockReply now answer ≡ well → Told a h
+        told h x answer arrived f g settles w =
+            rw (arrived, q ∙ lock-means o s now m kind)
+            (record {
+              left = left x f g settles;
+              frames = omega (arith, b .frames);
+              taken = absorb-once chip s a answer sums refl (lockReply now answer) 0 refl w;
+            })
+
+        go : (t : Bool) → clears (now .flags) ≡ t → Told a (hears chip first (lockCommand now))
+        go true c =
+            let shut = lock-shuts o (now .flags) c in
+            told _ (rest Silent Idle set m) [] (hears-shut chip sized first (b .waiting) now shut) refl refl (silent-settled chip set m shut) (rw c)
+        go false c =
+            let still = lock-leaves-open o (now .flags) ifpr-open c in
+            told _ (rest Command Idle set m) (one 0x06) (hears-lock chip sized first (b .waiting) now still) refl refl (rest-settled chip set m still)
+            (rw c (command-one 0x06))
 
   -- ---- what is known of such a state ----
 
@@ -343,6 +435,7 @@ module _ (chip : Chip) (s : List ℕ) (i n : ℕ) (o : Options) (sums : List ℕ
               list = refl;
               state = refl;
               fit = fit;
+              ifpr = mid .ifpr;
               counts = omega (arith, mid .counts);
               at = at;
             }))
@@ -394,7 +487,7 @@ module _ (chip : Chip) (s : List ℕ) (i n : ℕ) (o : Options) (sums : List ℕ
         block-stops : (left : ℕ) → k ≡ suc left → eraseProtected o (now .flash) b ≡ true → Outcome
         block-stops left y h =
             ends (Commanded Erase) a (blockCommand now a) sent-block
-            (told-waiting sender _ m (one 0x10) (hears-erase-guarded chip sized stand w (now .flash) b inside h) (mid .fit) 0x10 a (a + 1) 0
+            (told-waiting (mid .ifpr) sender _ m (one 0x10) (hears-erase-guarded chip sized stand w (now .flash) b inside h) (mid .fit) 0x10 a (a + 1) 0
             ((rw y at q) ∙ ap (λ d. leaves d o) (erase-stops o now m a left h))
             (omega arith)
             (absorb-erase-stop chip s sender (one 0x10) sums refl (rw (command-one 0x10)) ∙ rw (command-one 0x10)))
@@ -413,7 +506,7 @@ module _ (chip : Chip) (s : List ℕ) (i n : ℕ) (o : Options) (sums : List ℕ
           block-last : k ≡ 1 → Outcome
           block-last y =
               ends (Commanded Erase) a (blockCommand now a) sent-block
-              (told-waiting sender _ blank-there (one 0x06) erased kept 0x06 0 (a + 1) 0
+              (told-waiting (mid .ifpr) sender _ blank-there (one 0x06) erased kept 0x06 0 (a + 1) 0
               ((rw y at q) ∙ ap (λ d. leaves d o) (erase-last o now m a h))
               (omega arith)
               (absorb-erase-last chip s sender (one 0x06) sums refl now refl (command-one 0x06) (omega arith)))
@@ -425,7 +518,7 @@ module _ (chip : Chip) (s : List ℕ) (i n : ℕ) (o : Options) (sums : List ℕ
               (absorb-erase-on chip s sender (one 0x06) sums refl now refl (command-one 0x06) (omega arith))
               refl
               (suc left) y (omega arith)
-              (AtBlock kind (a + 1) (inr (refl, refl)) (rest-waits chip o blank-there) (omega arith) (omega arith)
+              (AtBlock kind (a + 1) (inr (refl, refl)) (rest-waits chip o blank-there (mid .ifpr)) (omega arith) (omega arith)
               ((rw y at q) ∙ ap (λ w. leaves (eraseDone w) o) (erase-on o now m a (suc left) h)))
 
         block-turn : Outcome
@@ -455,7 +548,7 @@ module _ (chip : Chip) (s : List ℕ) (i n : ℕ) (o : Options) (sums : List ℕ
         write-opens kind =
             opens (inl kind) (pairCommand 0x40 now) (write-sent (b .stage) kind) (Programming (pagesFor now))
             (hears-program chip sized stand (b .waiting) now (fact .forward) (fact .there))
-            (Writing 0x06 kind (ap Programming (first-pages now)) (λ y. absurd (y refl)) (q ∙ ap (λ d. leaves d o) (write-means o s now m kind)))
+            (Writing 0x06 kind (ap Programming (first-pages now)) (λ y. absurd (y refl)) (q ∙ write-means o s now m kind))
 
         verify-opens : now .kind ≡ Verify → Outcome
         verify-opens kind =
@@ -466,7 +559,7 @@ module _ (chip : Chip) (s : List ℕ) (i n : ℕ) (o : Options) (sums : List ℕ
             (omega (arith, fact .verify kind, blocks-in-pages (now .flash) (stepBlocks now))) in
             opens (inr kind) (pairCommand 0x13 now) (verify-sent (b .stage) kind) (Verifying (pagesFor now))
             (hears-verify chip sized stand (b .waiting) now (fact .forward) (fact .there))
-            (Comparing 0x06 kind (ap Verifying (first-pages now)) (q ∙ ap (λ d. leaves d o) means))
+            (Comparing 0x06 kind (ap Verifying (first-pages now)) (q ∙ means))
 
       -- a page
       module _ (stage : p .stage ≡ Page (now .kind)) (z : p .at + k ≡ stepPages now) (f : p .frames ≡ n + 1 + p .at) where
@@ -482,7 +575,7 @@ module _ (chip : Chip) (s : List ℕ) (i n : ℕ) (o : Options) (sums : List ℕ
             → Outcome
         page-ends m' st pieces fit arrived q last sure =
             ends (Paged (now .kind)) (p .at) page sent
-            (told-waiting pager _ m' (pair 0x06 st) arrived fit st pieces (2 + p .at) 0 q (omega arith) (go (eqb st 0x06) refl))
+            (told-waiting (mid .ifpr) pager _ m' (pair 0x06 st) arrived fit st pieces (2 + p .at) 0 q (omega arith) (go (eqb st 0x06) refl))
           where
             go : (b : Bool) → eqb st 0x06 ≡ b
                 → absorbed chip s pager (pair 0x06 st) sums ≡ cond b (finished s pager 0 sums) (stopped pager (Byte st) pieces sums)

@@ -1,3 +1,4 @@
 pub mod Hears
 pub mod Released
 pub mod Turns
+pub mod Silent

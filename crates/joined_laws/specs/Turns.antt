@@ -18,9 +18,9 @@ use Rattle.rules.specs.Chip.{Memory, flashOf, flashSize, start, firstPage, page
 use Rattle.rules.specs.Frame.{whole}
 use Rattle.rules.specs.StandIn.{State, startOf, taskNow}
 use Rattle.rules.specs.Sheet.{count, stepAt, stepPages, bodyPage}
-use Rattle.rules.specs.Meaning.{tried, writeFrom, Done, done, writeDone, stepMeaning, Ended, meaning}
+use Rattle.rules.specs.Meaning.{tried, writeFrom, Done, done, writeDone, stepMeaning, optionsAfter, Ended, meaning}
 use Rattle.rules.specs.Player.{player, well, beginning, emitted, reportOf}
-use Rattle.rules.specs.Run.{clean, Joined, Ran, ran, runFrom, mostFrames, stepRun, waits}
+use Rattle.rules.specs.Run.{clean, Joined, Ran, ran, runFrom, mostFrames, stepRun, waits, settled}
 
 -- ---- of a chip and its flashes ----
 
@@ -33,9 +33,9 @@ pub record Sized (chip : Chip) : Type 0 where
 abbrev pub Fit : Chip → Memory → Type 0
 Fit chip m = (f : Flash) → length (flashOf m f) ≡ flashSize chip f
 
--- a stand-in between two steps, and after a play: it waits for a command
+-- a stand-in between two steps, and after a play: it waits for a command, or is Silent where IFPR is 0 (02, M-106)
 abbrev pub Settled : Chip → State → Type 0
-Settled chip x = waits chip x ≡ true
+Settled chip x = settled chip x ≡ true
 
 -- ---- within a step ----
 
@@ -91,9 +91,8 @@ pub record Leaves : Type 0 where
 abbrev pub leaves : Done → Options → Leaves
 leaves d o = record { done = d; options = o }
 
--- no step changes the options
 abbrev pub stepLeaves : Options → List ℕ → Step → Memory → Leaves
-stepLeaves o s t m = leaves (stepMeaning o s t m) o
+stepLeaves o s t m = leaves (stepMeaning o s t m) (optionsAfter t o)
 
 -- the stand-in then: flashes and options are those, and it is settled
 pub record Left (chip : Chip) (e : Leaves) (x : State) : Type 0 where
@@ -125,8 +124,9 @@ pub record StepRuns (chip : Chip) (s : List ℕ) (e : Leaves) (c : ℕ) (j : Joi
 unfoldable pub framesFrom : Chip → List ℕ → Options → Memory → ℕ → ℕ → ℕ
 framesFrom chip s o m i zero = 0
 framesFrom chip s o m i (suc left) =
-    let d = stepMeaning o s (stepAt chip s i) m in
-    let later = framesFrom chip s o (d .memory) (i + 1) left in
+    let t = stepAt chip s i in
+    let d = stepMeaning o s t m in
+    let later = framesFrom chip s (optionsAfter t o) (d .memory) (i + 1) left in
     d .frames + cond (eqb (d .status) 0x06) later 0
 
 -- ---- the end of a play ----

@@ -7,10 +7,10 @@ ghost use mathlib.Core.Path.{_≡_};
 ghost use lib.ListN.{length};
 
 // Room for the longest sheet, and for one byte more, by which a longer input is seen as such.
-fn room() -> [u8; 65537]
-    ensures { λ r. ⌜ 65537 ≡ length r ⌝ }
+fn room() -> [u8; 65541]
+    ensures { λ r. ⌜ 65541 ≡ length r ⌝ }
 {
-    [0; 65537]
+    [0; 65541]
 }
 
 fn main() {

@@ -3,6 +3,7 @@ use player_place::is_lost;
 use player_replies::command_reply;
 use player_replies::data_reply;
 use player_replies::is_well;
+use player_replies::lock_reply;
 use player_replies::sum_in;
 use player_replies::sum_reply;
 use rules::Chip;
@@ -22,7 +23,7 @@ ghost use Prim.Native.Nat.{ℕ, _<_};
 ghost use lib.ListN.{set};
 ghost use Rattle.rules.specs.declared.Stage.the-variants.{Over};
 ghost use Rattle.rules.specs.Sheet.{stepAt, stepBlocks, stepPages};
-ghost use Rattle.rules.specs.Player.{player, well, newPlayer, started, beginning, pagesSure, absorbs, finished, erasedBlock, openedPages, tookSum, sentPage, absorbCommand, absorbed, commandIn, lost};
+ghost use Rattle.rules.specs.Player.{player, well, newPlayer, started, beginning, pagesSure, absorbs, finished, erasedBlock, openedPages, tookOnce, sentPage, absorbCommand, absorbed, commandIn, lost};
 ghost use Rattle.player_absorb.specs.Absorbing.{absorbedIn};
 
 // A player before its first call.
@@ -129,6 +130,8 @@ fn pages_sure(kind: Kind, at: usize) -> usize
         }
         Kind::Verify => 0,
         Kind::Sum => 0,
+        Kind::Blank => 0,
+        Kind::Lock => 0,
     }
 }
 
@@ -160,16 +163,15 @@ fn opened_pages(kind: Kind, p: Player, reply: &[u8]) -> Player
     go_on(Stage::Page(kind), p, 0)
 }
 
-// The answer to a sum.
-fn took_sum(sheet: &[u8], p: Player, reply: &[u8], sums: &mut [u16]) -> Player
+// The answer to a step of one frame: the status that it told, and its sum.
+fn took_once(sheet: &[u8], p: Player, status: Status, sum: u16, sums: &mut [u16]) -> Player
     requires { ⌜ p .step < 65536 ⌝ }
-    ensures { λ r. ⌜ absorbs r (now (sums .exit)) ≡ tookSum (now (sheet .entry)) p (now (reply .entry)) (now (sums .entry)) ⌝ }
+    ensures { λ r. ⌜ absorbs r (now (sums .exit)) ≡ tookOnce (now (sheet .entry)) p status sum (now (sums .entry)) ⌝ }
 {
-    let told = sum_reply(reply);
-    if !is_well(told) {
-        return stop(p, told, 0);
+    if !is_well(status) {
+        return stop(p, status, 0);
     }
-    finish(sheet, p, sum_in(reply), sums)
+    finish(sheet, p, sum, sums)
 }
 
 // The answer to a page: it tells of the page before, and only with the last one of its own.
@@ -205,7 +207,9 @@ fn absorb_command(
         Kind::Erase => erased_block(sheet, t, p, reply, sums),
         Kind::Write => opened_pages(Kind::Write, p, reply),
         Kind::Verify => opened_pages(Kind::Verify, p, reply),
-        Kind::Sum => took_sum(sheet, p, reply, sums),
+        Kind::Sum => took_once(sheet, p, sum_reply(reply), sum_in(reply), sums),
+        Kind::Blank => took_once(sheet, p, command_reply(reply), 0, sums),
+        Kind::Lock => took_once(sheet, p, lock_reply(t, reply), 0, sums),
     }
 }
 

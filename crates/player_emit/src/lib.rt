@@ -24,14 +24,20 @@ use sheet::steps::step_pages;
 use sheet::table::count;
 ghost use mathlib.Core.Path.{_≡_};
 ghost use mathlib.Core.Bool.{false};
+ghost use mathlib.Core.List.{[], _∷_, _++_};
 ghost use Prim.Native.Nat.{_+_, _*_, _<_, _≤_};
-ghost use lib.ListN.{length};
+ghost use lib.ListN.{length, take};
 ghost use Rattle.rules.specs.Sheet.{stepAt, stepBlocks, stepPages};
-ghost use Rattle.rules.specs.Player.{player, counted, sends, pairCommand, blockCommand, firstCommand, pageFrame, lost};
+ghost use Rattle.rules.specs.Player.{player, counted, sends, command, pairBytes, lockCommand, blockCommand, firstCommand, pageFrame, lost};
 ghost use Rattle.frame_build.specs.Buffer.{put, putBytes};
 ghost use Rattle.rules.specs.declared.Kind.the-variants.{Erase};
 ghost use Rattle.rules.specs.declared.Stage.the-variants.{Commanded};
 ghost use Rattle.player_emit.specs.Emitting.{emitting, emittingBy, pageThere, pageInto, emittedIntoBy, emittedInto};
+
+// The codes of the two steps that form 2 adds.
+const BLANK_CHECK: u8 = 0x32;
+
+const SECURITY_SET: u8 = 0xA0;
 
 // The player after a frame, and how many bytes the frame has; 0 where none is given.
 pub struct Emitted {
@@ -64,9 +70,10 @@ fn sending(stage: Stage, p: Player, at: usize) -> Player
     }
 }
 
-// A command over the step's address pair.
-fn pair_command(code: u8, t: Step, frame: &mut [u8]) -> usize
-    ensures { λ r. ⌜ put r (now (frame .exit)) ≡ putBytes (pairCommand code t) (now (frame .entry)) ⌝ }
+// A command over the step's address pair: its first 7 bytes, or all 8 for a blank check, which has TAR behind the pair: 00h, flash alone.
+fn pair_command(code: u8, t: Step, n: usize, frame: &mut [u8]) -> usize
+    requires { ⌜ (1 ≤ n) × (n ≤ 8) ⌝ }
+    ensures { λ r. ⌜ put r (now (frame .exit)) ≡ putBytes (command (take n (code ∷ (pairBytes t ++ (0x00 ∷ []))))) (now (frame .entry)) ⌝ }
 {
     let flash = t.flash;
     let sad = first_byte(flash, t.first);
@@ -79,7 +86,17 @@ fn pair_command(code: u8, t: Step, frame: &mut [u8]) -> usize
         low_byte(ead.0),
         middle_byte(ead.0),
         high_byte(ead.0),
+        0x00,
     ];
+    put_frame(frame, 0x01, 0x03, &body[0..n])
+}
+
+// The lock: its SF1 and SF2 as the sheet has them, and the reserved byte.
+fn lock_command(t: Step, frame: &mut [u8]) -> usize
+    ensures { λ r. ⌜ put r (now (frame .exit)) ≡ putBytes (lockCommand t) (now (frame .entry)) ⌝ }
+{
+    let flags = t.flags;
+    let body = [SECURITY_SET, flags.sf1, flags.sf2, 0x00];
     put_frame(frame, 0x01, 0x03, &body)
 }
 
@@ -137,9 +154,11 @@ fn first_command(kind: Kind, t: Step, frame: &mut [u8]) -> usize
 {
     match kind {
         Kind::Erase => block_command(t, 0, frame),
-        Kind::Write => pair_command(PROGRAMMING, t, frame),
-        Kind::Verify => pair_command(VERIFY, t, frame),
-        Kind::Sum => pair_command(CHECKSUM, t, frame),
+        Kind::Write => pair_command(PROGRAMMING, t, 7, frame),
+        Kind::Verify => pair_command(VERIFY, t, 7, frame),
+        Kind::Sum => pair_command(CHECKSUM, t, 7, frame),
+        Kind::Blank => pair_command(BLANK_CHECK, t, 8, frame),
+        Kind::Lock => lock_command(t, frame),
     }
 }
 

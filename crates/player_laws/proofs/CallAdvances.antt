@@ -13,19 +13,20 @@ use Rattle.rules.specs.declared.Chip.{Chip}
 use Rattle.rules.specs.declared.Flash.{Flash}
 use Rattle.rules.specs.declared.Flash.the-variants.{Code, Data}
 use Rattle.rules.specs.declared.Kind.{Kind}
-use Rattle.rules.specs.declared.Kind.the-variants.{Erase, Write, Verify, Sum}
+use Rattle.rules.specs.declared.Kind.the-variants.{Erase, Write, Verify, Sum, Blank, Lock}
 use Rattle.rules.specs.declared.Player.{Player}
 use Rattle.rules.specs.declared.Stage.{Stage}
 use Rattle.rules.specs.declared.Stage.the-variants.{New, Ready, Block, Commanded, Page, Paged, Over}
+use Rattle.rules.specs.declared.Status.{Status}
 use Rattle.rules.specs.declared.Step.{Step}
 use Rattle.rules.specs.declared.Verdict.the-variants.{Accepted}
 use Rattle.rules.specs.Chip.{pagesPerBlock, blocks}
 use Rattle.rules.specs.Sheet.{mostSteps, count, stepAt, stepBlocks, stepPages, verdict}
-use Rattle.rules.specs.Player.{player, well, isWell, commandReply, sumReply, sumIn, dataReply, beginning, finished, absorbed, counted, emitted, commandIn, lost, playerVerdict, played, called, Sent, silent, emitBy}
+use Rattle.rules.specs.Player.{player, well, isWell, commandReply, lockReply, sumReply, dataReply, beginning, finished, tookOnce, absorbCommand, absorbed, counted, emitted, commandIn, lost, playerVerdict, played, called, Sent, silent, emitBy}
 use Rattle.rules.specs.Run.{mostFor, mostFrames, mostFrom, mostCalls}
 use Rattle.sheet.proofs.Accepted.{sound, whole}
 use Rattle.player_laws.specs.Calls.{framesBehind, leftBy, later, callsLeft, mostPages, rankFrom, blocksBefore, rankBy, rank, mostRank}
-use Rattle.player_laws.proofs.Moves.{absorb-new, absorb-ready, absorb-block, absorb-ahead, absorb-over, absorb-opened, absorb-opened-stop, absorb-sum, absorb-sum-stop, absorb-erase-on, absorb-erase-last, absorb-erase-stop, absorb-page-on, absorb-page-last, absorb-page-stop, emit-over, emit-first, emit-block, emit-page, call-played}
+use Rattle.player_laws.proofs.Moves.{absorb-new, absorb-ready, absorb-block, absorb-ahead, absorb-over, absorb-opened, absorb-opened-stop, absorb-once, absorb-once-stop, absorb-erase-on, absorb-erase-last, absorb-erase-stop, absorb-page-on, absorb-page-last, absorb-page-stop, emit-over, emit-first, emit-block, emit-page, call-played}
 use Rattle.player_laws.proofs.Replies.{is-well}
 use Rattle.player_laws.proofs.PlaceInSheet.{Paging, first-in, ready-stands, block-stands, commanded-stands, erased-stands, page-stands, paged-stands, stands-ready, stands-block, stands-commanded, stands-page, stands-paged, stands-over, allowed-call}
 
@@ -47,6 +48,8 @@ first-frame Erase t h = (omega arith, refl)
 first-frame Write t h = (omega arith, refl)
 first-frame Verify t h = (omega arith, refl)
 first-frame Sum t h = (omega arith, refl)
+first-frame Blank t h = (omega arith, refl)
+first-frame Lock t h = (omega arith, refl)
 
 -- the kinds that send pages
 paging : (k : Kind) (t : Step) (at : ℕ) → Paging k → (framesBehind k t at ≡ stepPages t) × (blocksBefore k at ≡ 0)
@@ -166,19 +169,24 @@ module _ (chip : Chip) (s : List ℕ) where
             due = AtPage k refl (omega (arith, rank-is chip p g, rank-is chip q refl, f .1));
           })
 
-      summed-due : p .stage ≡ Commanded Sum → (b : Bool) → isWell (sumReply r) ≡ b → Taken
-      unfolding leftBy framesBehind rankBy blocksBefore
-      summed-due g false w = rw (absorb-sum-stop chip s p r sums g w) (over-due _ _ _ refl)
-      summed-due g true w =
-          rw (absorb-sum chip s p r sums g (is-well _ w))
-          (ended (sumIn r) (commanded-stands chip s p here refl h g .0) (omega (arith, left-is chip s p g)) (omega (arith, rank-is chip p g)))
+      -- the only frame of a step
+      once-due : (k : Kind) (g : p .stage ≡ Commanded k) (st : Status) (sum : ℕ) → absorbCommand k s here p r sums ≡ tookOnce s p st sum sums
+          → blocksBefore k (p .at) ≡ 0 → (b : Bool) → isWell st ≡ b → Taken
+      unfolding leftBy rankBy
+      once-due k g st sum o z false w = rw (absorb-once-stop chip s p r sums g st sum o w) (over-due _ _ _ refl)
+      once-due k g st sum o z true w =
+          rw (absorb-once chip s p r sums g st sum o (is-well _ w))
+          (ended sum (commanded-stands chip s p here refl h g .0) (omega (arith, left-is chip s p g)) (omega (arith, z, rank-is chip p g)))
 
       -- to a command frame, by the kind begun
       command-due : (k : Kind) → p .stage ≡ Commanded k → Taken
+      unfolding absorbCommand blocksBefore
       command-due Erase g = erased-due g (isWell (commandReply r)) (eqb (p .at + 1) (stepBlocks here)) refl refl
       command-due Write g = opened-due Write g (inl refl) (isWell (commandReply r)) refl
       command-due Verify g = opened-due Verify g (inr refl) (isWell (commandReply r)) refl
-      command-due Sum g = summed-due g (isWell (sumReply r)) refl
+      command-due Sum g = once-due Sum g _ _ refl refl (isWell (sumReply r)) refl
+      command-due Blank g = once-due Blank g _ _ refl refl (isWell (commandReply r)) refl
+      command-due Lock g = once-due Lock g _ _ refl refl (isWell (lockReply here r)) refl
 
       paged-due : (k : Kind) → p .stage ≡ Paged k → (b c : Bool) → isWell (dataReply r) ≡ b → eqb (p .at + 1) (stepPages here) ≡ c → Taken
       unfolding leftBy rankBy

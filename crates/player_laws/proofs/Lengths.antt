@@ -8,7 +8,7 @@ use lib.Dec.{eqb}
 use lib.ListN.{length, drop, length-append, length-drop, length-take, length-set}
 use Rattle.rules.specs.declared.Chip.{Chip}
 use Rattle.rules.specs.declared.Kind.{Kind}
-use Rattle.rules.specs.declared.Kind.the-variants.{Erase, Write, Verify, Sum}
+use Rattle.rules.specs.declared.Kind.the-variants.{Erase, Write, Verify, Sum, Blank, Lock}
 use Rattle.rules.specs.declared.Player.{Player}
 use Rattle.rules.specs.declared.Stage.{Stage}
 use Rattle.rules.specs.declared.Stage.the-variants.{New, Ready, Block, Commanded, Page, Paged, Over}
@@ -18,7 +18,7 @@ use Rattle.rules.specs.declared.Verdict.the-variants.{Accepted, Refused}
 use Rattle.rules.specs.Chip.{over, pageSize}
 use Rattle.rules.specs.Frame.{frame}
 use Rattle.rules.specs.Sheet.{stepAt, stepBlocks, stepPages}
-use Rattle.rules.specs.Player.{isWell, commandReply, sumReply, sumIn, dataReply, Absorbed, finished, erasedBlock, openedPages, tookSum, sentPage, absorbCommand, absorbBy, absorbed, firstCommand, emitBy, emitted, frameRoom, playerVerdict, played, called}
+use Rattle.rules.specs.Player.{isWell, commandReply, lockReply, sumReply, sumIn, dataReply, Absorbed, finished, erasedBlock, openedPages, tookOnce, sentPage, absorbCommand, absorbBy, absorbed, firstCommand, emitBy, emitted, frameRoom, playerVerdict, played, called}
 use Rattle.frame_build.proofs.Buffers.{length-frame}
 use Rattle.player_laws.proofs.Moves.{call-refused, call-played}
 use Rattle.player_laws.proofs.PlaceInSheet.{allowed-call}
@@ -35,6 +35,8 @@ first-short Erase t = frame-short _ _ _ (omega arith)
 first-short Write t = frame-short _ _ _ (omega arith)
 first-short Verify t = frame-short _ _ _ (omega arith)
 first-short Sum t = frame-short _ _ _ (omega arith)
+first-short Blank t = frame-short _ _ _ (omega arith)
+first-short Lock t = frame-short _ _ _ (omega arith)
 
 stage-short : (g : Stage) (s : List ℕ) (t : Step) (p : Player) → length (emitBy g s t p .bytes) ≤ frameRoom
 unfolding emitBy
@@ -65,7 +67,7 @@ unfolding finished
 finished-sums s p sum sums = length-set sums (p .step) sum
 
 command-sums : (k : Kind) (s : List ℕ) (t : Step) (p : Player) (r sums : List ℕ) → length (absorbCommand k s t p r sums .sums) ≡ length sums
-unfolding absorbCommand erasedBlock openedPages tookSum
+unfolding absorbCommand erasedBlock openedPages tookOnce
 command-sums Erase s t p r sums =
     either (isWell (commandReply r)) _ _ (length sums)
     (either (eqb (p .at + 1) (stepBlocks t)) _ _ (length sums) (finished-sums s p 0 sums) refl)
@@ -73,6 +75,8 @@ command-sums Erase s t p r sums =
 command-sums Write s t p r sums = either (isWell (commandReply r)) _ _ (length sums) refl refl
 command-sums Verify s t p r sums = either (isWell (commandReply r)) _ _ (length sums) refl refl
 command-sums Sum s t p r sums = either (isWell (sumReply r)) _ _ (length sums) (finished-sums s p (sumIn r) sums) refl
+command-sums Blank s t p r sums = either (isWell (commandReply r)) _ _ (length sums) (finished-sums s p 0 sums) refl
+command-sums Lock s t p r sums = either (isWell (lockReply t r)) _ _ (length sums) (finished-sums s p 0 sums) refl
 
 stage-sums : (g : Stage) (s : List ℕ) (t : Step) (p : Player) (r sums : List ℕ) → length (absorbBy g s t p r sums .sums) ≡ length sums
 unfolding absorbBy sentPage

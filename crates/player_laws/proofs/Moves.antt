@@ -8,18 +8,19 @@ use lib.ListN.{length}
 use borrow.Author.Tests.{eq-eqb, ne-eqb}
 use Rattle.rules.specs.declared.Chip.{Chip}
 use Rattle.rules.specs.declared.Kind.{Kind}
-use Rattle.rules.specs.declared.Kind.the-variants.{Erase, Sum}
+use Rattle.rules.specs.declared.Kind.the-variants.{Erase}
 use Rattle.rules.specs.declared.Next.the-variants.{Refused, End}
 use Rattle.rules.specs.declared.Player.{Player}
 use Rattle.rules.specs.declared.Refusal.{Refusal}
 use Rattle.rules.specs.declared.Stage.{Stage}
 use Rattle.rules.specs.declared.Stage.the-variants.{New, Ready, Block, Commanded, Page, Paged, Over}
+use Rattle.rules.specs.declared.Status.{Status}
 use Rattle.rules.specs.declared.Step.{Step}
 use Rattle.rules.specs.declared.Verdict.the-variants.{Accepted}
 use Rattle.rules.specs.declared.Verdict.the-variants as v
 use Rattle.rules.specs.Chip.{over}
 use Rattle.rules.specs.Sheet.{stepAt, stepBlocks, stepPages}
-use Rattle.rules.specs.Player.{well, commandReply, sumReply, sumIn, dataReply, isWell, absorbs, stopped, goesOn, finished, pagesSure, erasedBlock, openedPages, tookSum, sentPage, started, absorbCommand, absorbBy, absorbed, sends, silent, firstCommand, blockCommand, pageFrame, emitBy, emitted, playerVerdict, calls, played, callBy, called}
+use Rattle.rules.specs.Player.{well, commandReply, dataReply, isWell, absorbs, stopped, goesOn, finished, pagesSure, erasedBlock, openedPages, tookOnce, sentPage, started, absorbCommand, absorbBy, absorbed, sends, silent, firstCommand, blockCommand, pageFrame, emitBy, emitted, playerVerdict, calls, played, callBy, called}
 use Rattle.player_laws.proofs.PlaceInSheet.{Paging}
 
 module _ (chip : Chip) (s : List ℕ) (p : Player) where
@@ -65,15 +66,20 @@ module _ (chip : Chip) (s : List ℕ) (p : Player) where
       unfolding openedPages
       absorb-opened-stop n = opening ∙ rw n
 
-    -- to a sum
-    module _ (g : p .stage ≡ Commanded Sum) where
-      pub absorb-sum : sumReply r ≡ well → absorbed chip s p r sums ≡ finished s p (sumIn r) sums
-      unfolding absorbed absorbBy absorbCommand tookSum
-      absorb-sum w = rw (g, w)
+    -- to the only frame of a step, by the status told and the sum
+    module _ {k : Kind} (g : p .stage ≡ Commanded k) (st : Status) (sum : ℕ)
+        (only : absorbCommand k s (stepAt chip s (p .step)) p r sums ≡ tookOnce s p st sum sums) where
+      took : absorbed chip s p r sums ≡ tookOnce s p st sum sums
+      unfolding absorbed absorbBy
+      took = ap (λ (g : Stage). absorbBy g s (stepAt chip s (p .step)) p r sums) g ∙ only
 
-      pub absorb-sum-stop : isWell (sumReply r) ≡ false → absorbed chip s p r sums ≡ stopped p (sumReply r) 0 sums
-      unfolding absorbed absorbBy absorbCommand tookSum
-      absorb-sum-stop n = rw (g, n)
+      pub absorb-once : st ≡ well → absorbed chip s p r sums ≡ finished s p sum sums
+      unfolding tookOnce
+      absorb-once w = took ∙ rw w
+
+      pub absorb-once-stop : isWell st ≡ false → absorbed chip s p r sums ≡ stopped p st 0 sums
+      unfolding tookOnce
+      absorb-once-stop n = took ∙ rw n
 
     -- to the erase of a block
     module _ (g : p .stage ≡ Commanded Erase) where

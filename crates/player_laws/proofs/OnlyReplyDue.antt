@@ -10,9 +10,11 @@ use lib.ListN.{length, take, drop, length-drop, take-append-drop}
 use lib.Seq.{drop-cons, getD-drop, getD-take, length-take-le, take-all}
 use borrow.Author.Tests.{eqb-true, eqb-false, eq-eqb}
 use Rattle.rules.specs.declared.Status.the-variants.{Byte, L1}
+use Rattle.rules.specs.declared.Step.{Step}
 use Rattle.rules.specs.Chip.{byteAt, wordBytes, total}
+use Rattle.rules.specs.Sheet.{clears}
 use Rattle.rules.specs.Frame.{dataStart, lastEnd, frame, lenByte, sumByte, one, pair}
-use Rattle.rules.specs.Player.{well, framed, commandReply, sumReply, sumIn, dataReply}
+use Rattle.rules.specs.Player.{well, framed, commandReply, noReply, lockReply, sumReply, sumIn, dataReply}
 use Rattle.rules.proofs.Choices.{both, each-of-five, picked}
 use Rattle.frame_build.proofs.Sum.{total-frame, sum-byte}
 use Rattle.player_laws.specs.Bytes.{Bytes}
@@ -102,6 +104,19 @@ module _ (r : List ℕ) (bytes : Bytes r) where
   command-exact b e =
       let t = picked (framed 1 r) (Byte (byteAt r 2)) L1 (Byte b) e (byte-not b) in
       one-exact r (t .0) (bytes 3) ∙ ap one (byte-same _ _ (t .1))
+
+  -- to a lock that clears IFPR none, to another one byte
+  pub lock-exact : (t : Step) → lockReply t r ≡ well → r ≡ cond (clears (t .flags)) [] (one 0x06)
+  unfolding lockReply
+  lock-exact t e = go (clears (t .flags)) refl
+    where
+      none : (x : List ℕ) → noReply x ≡ well → x ≡ []
+      none [] e = refl
+      none (b ∷ x) e = absurd (byte-not 0x06 (sym e))
+
+      go : (b : Bool) → clears (t .flags) ≡ b → r ≡ cond b [] (one 0x06)
+      go true c = none r (rw c at e)
+      go false c = command-exact 0x06 (rw c at e)
 
   pub data-exact : dataReply r ≡ well → r ≡ pair 0x06 0x06
   unfolding dataReply

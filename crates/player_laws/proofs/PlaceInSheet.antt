@@ -8,7 +8,7 @@ use lib.Dec.{ltb, eqb}
 use borrow.Author.Tests.{ltb-true, ltb-false, lt-ltb, le-ltb, eqb-true, eq-eqb, not-false}
 use Rattle.rules.specs.declared.Chip.{Chip}
 use Rattle.rules.specs.declared.Kind.{Kind}
-use Rattle.rules.specs.declared.Kind.the-variants.{Erase, Write, Verify, Sum}
+use Rattle.rules.specs.declared.Kind.the-variants.{Erase, Write, Verify, Sum, Blank, Lock}
 use Rattle.rules.specs.declared.Player.{Player}
 use Rattle.rules.specs.declared.Refusal.the-variants.{P1, P2}
 use Rattle.rules.specs.declared.Stage.the-variants.{New, Ready, Block, Commanded, Page, Paged, Over}
@@ -30,6 +30,8 @@ numbered Erase = refl
 numbered Write = refl
 numbered Verify = refl
 numbered Sum = refl
+numbered Blank = refl
+numbered Lock = refl
 
 same-kind : (a b : Kind) → kindNumber a ≡ kindNumber b → b ≡ a
 same-kind a b e = sym (numbered b) ∙ ap kindOf (sym e) ∙ numbered a
@@ -44,6 +46,8 @@ page-in Erase t at e = absurd (false≢true e)
 page-in Write t at e = (inl refl, ltb-true at (stepPages t) e)
 page-in Verify t at e = (inr refl, ltb-true at (stepPages t) e)
 page-in Sum t at e = absurd (false≢true e)
+page-in Blank t at e = absurd (false≢true e)
+page-in Lock t at e = absurd (false≢true e)
 
 in-page : (k : Kind) (t : Step) (at : ℕ) → Paging k → at < stepPages t → pageIn k t at ≡ true
 unfolding pageIn
@@ -57,6 +61,8 @@ first-in Erase t h = lt-ltb 0 (stepBlocks t) h
 first-in Write t h = refl
 first-in Verify t h = refl
 first-in Sum t h = refl
+first-in Blank t h = refl
+first-in Lock t h = refl
 
 module _ (chip : Chip) (s : List ℕ) (p : Player) (t : Step) (here : stepAt chip s (p .step) ≡ t) where
   -- ---- not lost: what is known ----

@@ -4,7 +4,7 @@ use mathlib.Core.List.{List, [], _∷_}
 use Rattle.rules.specs.declared.Chip.{Chip}
 use Rattle.rules.specs.declared.Flash.the-variants.{Code, Data}
 use Rattle.rules.specs.declared.Kind.{Kind}
-use Rattle.rules.specs.declared.Kind.the-variants.{Erase, Write, Verify, Sum}
+use Rattle.rules.specs.declared.Kind.the-variants.{Erase, Write, Verify, Sum, Blank, Lock}
 use Rattle.rules.specs.declared.Player.{Player}
 use Rattle.rules.specs.declared.Stage.{Stage}
 use Rattle.rules.specs.declared.Stage.the-variants.{New, Ready, Block, Commanded, Page, Paged, Over}
@@ -31,6 +31,8 @@ framesBehind Erase t at = stepBlocks t - (at + 1)
 framesBehind Write t at = stepPages t
 framesBehind Verify t at = stepPages t
 framesBehind Sum t at = 0
+framesBehind Blank t at = 0
+framesBehind Lock t at = 0
 
 -- how many calls are left at most: one for each frame that may still be sent, and one that has none to send;
 -- `later` is for the steps behind the one in hand, `all` for a new player
@@ -88,6 +90,8 @@ blocksBefore Erase at = at
 blocksBefore Write at = 0
 blocksBefore Verify at = 0
 blocksBefore Sum at = 0
+blocksBefore Blank at = 0
+blocksBefore Lock at = 0
 
 unfoldable pub rankBy : Stage → ℕ → ℕ → ℕ
 unfolding blocksBefore

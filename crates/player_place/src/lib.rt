@@ -33,6 +33,8 @@ fn command_in(kind: Kind, t: Step, at: usize) -> bool
         Kind::Write => true,
         Kind::Verify => true,
         Kind::Sum => true,
+        Kind::Blank => true,
+        Kind::Lock => true,
     }
 }
 
@@ -45,6 +47,8 @@ fn page_in(kind: Kind, t: Step, at: usize) -> bool
         Kind::Write => at < step_pages(t),
         Kind::Verify => at < step_pages(t),
         Kind::Sum => false,
+        Kind::Blank => false,
+        Kind::Lock => false,
     }
 }
 

@@ -9,9 +9,11 @@ use lib.Dec.{eqb}
 use lib.ListN.{length, take, drop, length-take}
 use borrow.Author.Tests.{eq-eqb, ne-eqb, eqb-true, eqb-false}
 use Rattle.rules.specs.declared.Status.the-variants.{Byte, L1}
+use Rattle.rules.specs.declared.Step.{Step}
 use Rattle.rules.specs.Chip.{byteAt, total, same}
 use Rattle.rules.specs.Frame.{addsUp}
-use Rattle.rules.specs.Player.{well, framed, commandReply, sumReply, dataReply}
+use Rattle.rules.specs.Sheet.{clears}
+use Rattle.rules.specs.Player.{well, framed, commandReply, sumReply, noReply, lockReply, dataReply}
 use Rattle.rules.proofs.Choices.{and-false}
 use Rattle.rules.proofs.Bytes.{same-equal}
 
@@ -63,6 +65,25 @@ module _ (r : List ℕ) where
   pub first-told : framed 2 r ≡ true → (byteAt r 2 ≡ 0x06 → ⊥) → dataReply r ≡ Byte (byteAt r 2)
   unfolding dataReply
   first-told h n = rw (h, ne-eqb (byteAt r 2) 0x06 n)
+
+-- ---- the reply to a lock ----
+
+pub none-came : (r : List ℕ) → length r ≡ 0 → noReply r ≡ well
+none-came [] e = refl
+none-came (b ∷ r) e = absurd (omega arith)
+
+pub some-came : (r : List ℕ) → (length r ≡ 0 → ⊥) → noReply r ≡ L1
+some-came [] n = absurd (n refl)
+some-came (b ∷ r) n = refl
+
+module _ (t : Step) (r : List ℕ) where
+  pub none-due : clears (t .flags) ≡ true → lockReply t r ≡ noReply r
+  unfolding lockReply
+  none-due h = rw h
+
+  pub one-due : clears (t .flags) ≡ false → lockReply t r ≡ commandReply r
+  unfolding lockReply
+  one-due h = rw h
 
 -- ---- the fixed frames: compared and decoded they are judged alike ----
 

@@ -5,10 +5,13 @@ use frame_build::adds_up;
 use octets::numbers::byte_at;
 use octets::numbers::word_at;
 use octets::same_bytes;
+use rules::Flags;
 use rules::Status;
+use rules::Step;
 ghost use mathlib.Core.Path.{_≡_};
 ghost use Prim.Native.Nat.{_≤_};
-ghost use Rattle.rules.specs.Player.{framed, commandReply, sumReply, sumIn, dataReply, isWell};
+ghost use Rattle.rules.specs.Sheet.{clears};
+ghost use Rattle.rules.specs.Player.{framed, commandReply, sumReply, sumIn, noReply, lockReply, dataReply, isWell};
 
 // One data frame of n bytes and nothing more, correct in start, LEN, SUM and end.
 fn is_framed(n: usize, r: &[u8]) -> bool
@@ -86,6 +89,33 @@ pub fn sum_in(r: &[u8]) -> u16
     ensures { λ n. ⌜ n ≡ sumIn (now (r .entry)) ⌝ }
 {
     word_at(r, 7)
+}
+
+// Exactly no reply is due.
+fn no_reply(r: &[u8]) -> Status
+    ensures { λ st. ⌜ st ≡ noReply (now (r .entry)) ⌝ }
+{
+    if r.len() == 0 {
+        return Status::Byte(0x06);
+    }
+    Status::L1
+}
+
+// Bit 2 of SF2 is IFPR.
+fn clears_ifpr(f: Flags) -> bool
+    ensures { λ b. ⌜ b ≡ clears f ⌝ }
+{
+    f.sf2 / 4 % 2 == 0
+}
+
+// The reply to a lock: none to one that clears IFPR, for the chip then answers nothing more; one byte to any other.
+pub fn lock_reply(t: Step, r: &[u8]) -> Status
+    ensures { λ st. ⌜ st ≡ lockReply t (now (r .entry)) ⌝ }
+{
+    if clears_ifpr(t.flags) {
+        return no_reply(r);
+    }
+    command_reply(r)
 }
 
 // The reply to a data frame.

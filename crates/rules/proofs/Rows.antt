@@ -22,7 +22,7 @@ use Rattle.rules.specs.Sheet.{verdict}
 use Rattle.rules.specs.Meaning.{Ended, meaning, stepFrames}
 use Rattle.rules.specs.Numbers.{noteNumbers, callNumber, verdictNumber, nextNumber, statusNumber}
 use Rattle.rules.specs.Player.{called}
-use Rattle.rules.specs.Run.{Joined, Ran, clean, joinedAtStart, run, waits}
+use Rattle.rules.specs.Run.{Joined, Ran, clean, joinedAtStart, run, waits, settled}
 use Rattle.rules.specs.Rows.{sameNumber, sameOptions, sameMemory, alike, Exchange, Session, gives, comesLast, stateAfter, exchanged, holds, allHold, Play, reports, noSums, noFrames, meant, ranTo, opened, plays, allPlay, Lending, lentMemory, lends, allLend, Calling, calls, allCall}
 use Rattle.rules.specs.Hex.{madeNumber, madeLine}
 use Rattle.rules.specs.HexTexts.{HexText, lentOut, makingIn, writtenIn, makes, allMake}
@@ -169,19 +169,19 @@ reported r st i n k e =
 pub record Meant (e : Ended) (t : Play) : Type 0 where
   pub report : Reported (e .report) (t .status) (t .steps) (t .frames) (t .pieces)
   pub sums : e .sums ≡ t .sums
-  pub options : e .options ≡ t .options
+  pub options : e .options ≡ t .optionsAfter
   pub memory : e .memory ≡ t .memoryAfter
 
 is-meant : (e : Ended) (t : Play) → meant e t ≡ true → Meant e t
 is-meant e t h =
     let r = reports (e .report) (t .status) (t .steps) (t .frames) (t .pieces) in
-    let c = both (r && same (e .sums) (t .sums) && sameOptions (e .options) (t .options)) (sameMemory (e .memory) (t .memoryAfter)) h in
-    let b = both (r && same (e .sums) (t .sums)) (sameOptions (e .options) (t .options)) (c .0) in
+    let c = both (r && same (e .sums) (t .sums) && sameOptions (e .options) (t .optionsAfter)) (sameMemory (e .memory) (t .memoryAfter)) h in
+    let b = both (r && same (e .sums) (t .sums)) (sameOptions (e .options) (t .optionsAfter)) (c .0) in
     let a = both r (same (e .sums) (t .sums)) (b .0) in
     record {
       report = reported (e .report) (t .status) (t .steps) (t .frames) (t .pieces) (a .0);
       sums = same-equal (e .sums) (t .sums) (a .1);
-      options = options-equal (e .options) (t .options) (b .1);
+      options = options-equal (e .options) (t .optionsAfter) (b .1);
       memory = memory-equal (e .memory) (t .memoryAfter) (c .1);
     }
 
@@ -192,24 +192,24 @@ reached j = let p = j .player in record { status = p .status; steps = p .step; f
 pub record RanTo (j : Joined) (t : Play) : Type 0 where
   pub report : Reported (reached j) (t .status) (t .steps) (t .frames) (t .pieces)
   pub sums : j .sums ≡ t .sums
-  pub options : j .state .options ≡ t .options
+  pub options : j .state .options ≡ t .optionsAfter
   pub memory : j .state .memory ≡ t .memoryAfter
-  pub waiting : waits (t .chip) (j .state) ≡ true
+  pub settled : settled (t .chip) (j .state) ≡ true
 
 ran-to : (j : Joined) (t : Play) → ranTo j t ≡ true → RanTo j t
 ran-to j t h =
     let r = reports (reached j) (t .status) (t .steps) (t .frames) (t .pieces) in
     let x = j .state in
-    let d = both (r && same (j .sums) (t .sums) && sameOptions (x .options) (t .options) && sameMemory (x .memory) (t .memoryAfter)) (waits (t .chip) x) h in
-    let c = both (r && same (j .sums) (t .sums) && sameOptions (x .options) (t .options)) (sameMemory (x .memory) (t .memoryAfter)) (d .0) in
-    let b = both (r && same (j .sums) (t .sums)) (sameOptions (x .options) (t .options)) (c .0) in
+    let d = both (r && same (j .sums) (t .sums) && sameOptions (x .options) (t .optionsAfter) && sameMemory (x .memory) (t .memoryAfter)) (settled (t .chip) x) h in
+    let c = both (r && same (j .sums) (t .sums) && sameOptions (x .options) (t .optionsAfter)) (sameMemory (x .memory) (t .memoryAfter)) (d .0) in
+    let b = both (r && same (j .sums) (t .sums)) (sameOptions (x .options) (t .optionsAfter)) (c .0) in
     let a = both r (same (j .sums) (t .sums)) (b .0) in
     record {
       report = reported (reached j) (t .status) (t .steps) (t .frames) (t .pieces) (a .0);
       sums = same-equal (j .sums) (t .sums) (a .1);
-      options = options-equal (x .options) (t .options) (b .1);
+      options = options-equal (x .options) (t .optionsAfter) (b .1);
       memory = memory-equal (x .memory) (t .memoryAfter) (c .1);
-      waiting = d .1;
+      settled = d .1;
     }
 
 -- from the same chip, options and flash

@@ -12,6 +12,7 @@ use Rattle.rules.specs.BadFrames.{badFrames}
 use Rattle.rules.specs.HexTexts.{makes, allMake, pairsOf, recordOf, oneEach, hexTexts, hexBlocks}
 use Rattle.rules.specs.WholeFrames.{hands, allHand, wholeFrames}
 use Rattle.rules.specs.Chips.{chipLengths, chipSessions, chipSheets}
+use Rattle.rules.specs.Forms.{formSheets, formPlays, formCalls, moves, allMove, formMoves}
 
 -- THE STARRED TRIALS, 1 to 12
 pub starred-trials : allHold starred ≡ true
@@ -54,6 +55,23 @@ chip-sessions = refl
 pub chip-sheets : allPlay chipSheets ≡ true
 unfolding everything plays allPlay chipSheets
 chip-sheets = refl
+
+-- M-106: form 2, the new kinds, and moves
+pub form-sheets : allPlay formSheets ≡ true
+unfolding everything plays allPlay formSheets
+form-sheets = refl
+
+pub form-plays : allPlay formPlays ≡ true
+unfolding everything plays allPlay formPlays
+form-plays = refl
+
+pub form-calls : allCall formCalls ≡ true
+unfolding everything calls allCall formCalls
+form-calls = refl
+
+pub form-moves : allMove formMoves ≡ true
+unfolding everything moves allMove formMoves
+form-moves = refl
 
 -- M-100: Blank Check, and the notes
 pub blank-checks : allHold blankChecks ≡ true

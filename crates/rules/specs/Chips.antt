@@ -7,7 +7,7 @@ use Rattle.rules.specs.declared.Options.{Options}
 use Rattle.rules.specs.declared.numbers.Number.{Number}
 use Rattle.rules.specs.Chip.{Memory, small, large, freshMemory}
 use Rattle.rules.specs.Options.{freshOptions}
-use Rattle.rules.specs.Rows.{plain, D, J, Exchange, to, Session, Play, noSums, unreached, Lending, blankFlash, ack, opening, session, noBoot, command, one, pair, entryIn}
+use Rattle.rules.specs.Rows.{plain, D, J, Exchange, to, Session, Play, refusedBy, noSums, unreached, Lending, blankFlash, ack, opening, session, noBoot, command, one, pair, entryIn}
 
 -- ---- what is lent ----
 
@@ -78,7 +78,7 @@ chipSessions =
     blankFlash
     ∷ []
 
--- ---- sheets: judged against that chip ----
+-- ---- sheets: judged against that chip (from M-106 on by the chip that a form 2 sheet names) ----
 
 -- the erase of the large chip's last code block
 abbrev eraseLast : List ℕ
@@ -87,32 +87,27 @@ eraseLast = 0x01 ∷ 0x00 ∷ entryIn 0x01 1 0xF8 0xFF 14
 -- three erases: the large chip's last data block; from the last block of boot cluster 0 on; the last code block
 abbrev eraseThree : List ℕ
 eraseThree =
-    0x03 ∷ 0x00 ∷ (entryIn 0x0F 1 0x2F 0x2F 38 ++ entryIn 0x00 1 0x38 0x4F 38 ++ entryIn 0x01 1 0xF8 0xFF 38)
-
-abbrev judged : Chip → Options → Memory → List ℕ → Number → Number → ℕ → ℕ → List ℕ → Play
-judged k o m s said status steps frames each =
-    record {
-      chip = k;
-      options = o;
-      memory = m;
-      sheet = s;
-      verdict = said;
-      status = status;
-      steps = steps;
-      frames = frames;
-      pieces = 0;
-      sums = noSums;
-      each = each;
-      memoryAfter = m;
-    }
-
-abbrev refusedBy : Chip → List ℕ → Number → Play
-refusedBy k s said = judged k freshOptions blankFlash s said (plain 0) 0 0 []
+    0xFE ∷ 0x02 ∷ 0x02 ∷ 0x00 ∷ 0x03 ∷ 0x00
+    ∷ (entryIn 0x0F 1 0x2F 0x2F 42 ++ entryIn 0x00 1 0x38 0x4F 42 ++ entryIn 0x01 1 0xF8 0xFF 42)
 
 unfoldable pub chipSheets : List Play
 chipSheets =
     -- with BTPR 0 the last data block is erased, and the last block of boot cluster 0 stops the play
-    judged large noBoot (freshMemory large) eraseThree (plain 0) (plain 0x10) 1 2 (1 ∷ 1 ∷ unreached ∷ unreached ∷ [])
+    record {
+      chip = large;
+      options = noBoot;
+      memory = freshMemory large;
+      sheet = eraseThree;
+      verdict = plain 0;
+      status = plain 0x10;
+      steps = 1;
+      frames = 2;
+      pieces = 0;
+      sums = noSums;
+      each = 1 ∷ 1 ∷ unreached ∷ unreached ∷ [];
+      optionsAfter = noBoot;
+      memoryAfter = freshMemory large;
+    }
     ∷ refusedBy small eraseLast (J 6)
     ∷ refusedBy (chip 16 32) eraseLast (D 0)
     ∷ refusedBy (chip 16 32) (0x00 ∷ []) (D 0)

@@ -107,6 +107,9 @@ blankCheckCode = 0x32
 abbrev pub programmingCode : ℕ
 programmingCode = 0x40
 
+abbrev pub securitySetCode : ℕ
+securitySetCode = 0xA0
+
 abbrev pub checksumCode : ℕ
 checksumCode = 0xB0
 
@@ -134,7 +137,7 @@ commands =
     ∷ entry programmingCode 7 Command (paired Program)
     ∷ entry 0x9A 3 Speed rated
     ∷ entry identCode 11 Ident (plain Identity)
-    ∷ entry 0xA0 4 Command flagged
+    ∷ entry securitySetCode 4 Command flagged
     ∷ entry 0xA1 1 Command (plain SecurityGet)
     ∷ entry 0xA2 1 Command (plain Release)
     ∷ entry 0xAC 5 Command windowed

@@ -10,6 +10,7 @@ pub mod Sheet
 pub mod Meaning
 pub mod Player
 pub mod Numbers
+pub mod Move
 pub mod Run
 pub mod Text
 pub mod Lines
@@ -24,3 +25,4 @@ pub mod Blank
 pub mod BadFrames
 pub mod HexTexts
 pub mod WholeFrames
+pub mod Forms

@@ -1,4 +1,5 @@
--- 01, Plain meaning and report: what a sheet does to flash, and its report, without packets. Assumes nothing.
+-- 01, Plain meaning and report: what a sheet does to flash, and its report, without packets; 02, M-106: "carries the option bits too".
+-- Assumes nothing.
 use Prim.Native.Nat.{ℕ, zero, suc, _+_, _-_, min}
 use mathlib.Core.Bool.{cond, _&&_}
 use mathlib.Core.List.{List}
@@ -7,12 +8,12 @@ use lib.ListN.{set}
 use Rattle.rules.specs.declared.Chip.{Chip}
 use Rattle.rules.specs.declared.Options.{Options}
 use Rattle.rules.specs.declared.Kind.{Kind}
-use Rattle.rules.specs.declared.Kind.the-variants.{Erase, Write, Verify, Sum}
+use Rattle.rules.specs.declared.Kind.the-variants.{Erase, Write, Verify, Sum, Blank, Lock}
 use Rattle.rules.specs.declared.Step.{Step}
 use Rattle.rules.specs.declared.Status.the-variants.{Byte}
 use Rattle.rules.specs.declared.Report.{Report}
 use Rattle.rules.specs.Chip.{Memory, same, blank, block, firstPage, pageOf, putPage, blockOfPage, eraseBlock, bytesFrom, checksum}
-use Rattle.rules.specs.Options.{eraseProtected, writeProtected}
+use Rattle.rules.specs.Options.{eraseProtected, writeProtected, securitySet}
 use Rattle.rules.specs.Sheet.{count, stepAt, stepBlocks, stepPages, stepBody, bodyPage}
 
 -- pieces done one after the other, up to the first that fails: the memory, how many were done, and the status
@@ -72,7 +73,7 @@ writeDone p w =
     (done (w .memory) 0x06 0 (1 + p) 0)
     (done (w .memory) (w .status) (writePieces j p) (1 + min (j + 1) p) 0)
 
--- one step, by its kind. Frames: "sum one; verify 1 + pages"
+-- one step, by its kind. Frames: "sum one; verify 1 + pages"; 02, M-106: blank check "of flash alone" and lock, "each is one frame"
 unfoldable pub stepDone : Kind → Options → List ℕ → Step → Memory → Done
 stepDone Erase o s t m = eraseDone (eraseFrom o t m 0 (stepBlocks t))
 stepDone Write o s t m = writeDone (stepPages t) (writeFrom o s t m 0 (stepPages t))
@@ -80,11 +81,27 @@ stepDone Verify o s t m =
     let equal = same (bytesFrom m (t .flash) (t .first) (t .last)) (stepBody s t) in
     done m (cond equal 0x06 0x0F) 0 (1 + stepPages t) 0
 stepDone Sum o s t m = done m 0x06 0 1 (checksum (bytesFrom m (t .flash) (t .first) (t .last)))
+stepDone Blank o s t m =
+    done m (cond (blank (bytesFrom m (t .flash) (t .first) (t .last))) 0x06 0x1B) 0 1 0
+stepDone Lock o s t m = done m 0x06 0 1 0
 
 -- ONE STEP
 unfoldable pub stepMeaning : Options → List ℕ → Step → Memory → Done
 unfolding stepDone
 stepMeaning o s t m = stepDone (t .kind) o s t m
+
+-- 02, M-106: the option bits behind a step: a lock makes them those of a Security Set with its flags
+unfoldable pub optionsBy : Kind → Step → Options → Options
+optionsBy Erase t o = o
+optionsBy Write t o = o
+optionsBy Verify t o = o
+optionsBy Sum t o = o
+optionsBy Blank t o = o
+optionsBy Lock t o = securitySet (t .flags .sf1) (t .flags .sf2) o
+
+unfoldable pub optionsAfter : Step → Options → Options
+unfolding optionsBy
+optionsAfter t o = optionsBy (t .kind) t o
 
 -- what a play comes to
 pub record Ended : Type 0 where
@@ -102,9 +119,11 @@ ended m o st steps frames pieces sums =
 unfoldable pub meaningFrom : Chip → List ℕ → Options → Memory → ℕ → ℕ → List ℕ → ℕ → Ended
 meaningFrom chip s o m i frames sums zero = ended m o 0x06 i frames 0 sums
 meaningFrom chip s o m i frames sums (suc left) =
-    let d = stepMeaning o s (stepAt chip s i) m in
-    let later = meaningFrom chip s o (d .memory) (i + 1) (frames + d .frames) (set sums i (d .sum)) left in
-    cond (eqb (d .status) 0x06) later (ended (d .memory) o (d .status) i (frames + d .frames) (d .pieces) sums)
+    let t = stepAt chip s i in
+    let d = stepMeaning o s t m in
+    let after = optionsAfter t o in
+    let later = meaningFrom chip s after (d .memory) (i + 1) (frames + d .frames) (set sums i (d .sum)) left in
+    cond (eqb (d .status) 0x06) later (ended (d .memory) after (d .status) i (frames + d .frames) (d .pieces) sums)
 
 -- THE MEANING of an accepted sheet, on options, flash and a list for sums
 unfoldable pub meaning : Chip → List ℕ → Options → Memory → List ℕ → Ended
@@ -115,9 +134,10 @@ meaning chip s o m sums = meaningFrom chip s o m 0 0 sums (count s)
 unfoldable pub stepFramesFrom : Chip → List ℕ → Options → Memory → ℕ → List ℕ → ℕ → List ℕ
 stepFramesFrom chip s o m i each zero = each
 stepFramesFrom chip s o m i each (suc left) =
-    let d = stepMeaning o s (stepAt chip s i) m in
+    let t = stepAt chip s i in
+    let d = stepMeaning o s t m in
     let put = set each i (d .frames) in
-    let later = stepFramesFrom chip s o (d .memory) (i + 1) put left in
+    let later = stepFramesFrom chip s (optionsAfter t o) (d .memory) (i + 1) put left in
     cond (eqb (d .status) 0x06) later put
 
 -- THE FRAMES OF EACH STEP of an accepted sheet

@@ -3,7 +3,7 @@ use Prim.Native.Nat.{ℕ}
 use mathlib.Core.List.{List, [], _∷_}
 use Rattle.rules.specs.declared.numbers.Number.{Number}
 use Rattle.rules.specs.declared.Refusal.{Refusal}
-use Rattle.rules.specs.declared.Refusal.the-variants.{D0, D1, D2, D3, E1, J1, J2, J3, J4, J5, J6, J7, J8, J9, J10, P1, P2}
+use Rattle.rules.specs.declared.Refusal.the-variants.{D0, D1, D2, D3, E1, J1, J2, J3, J4, J5, J6, J7, J8, J9, J10, J11, J12, J14, J15, J16, P1, P2}
 use Rattle.rules.specs.declared.Call.{Call}
 use Rattle.rules.specs.declared.Call.the-variants as call
 use Rattle.rules.specs.declared.Verdict.{Verdict}
@@ -17,12 +17,12 @@ use Rattle.rules.specs.declared.Flash.the-variants.{Code, Data}
 use Rattle.rules.specs.declared.Note.{Note}
 use Rattle.rules.specs.declared.Note.the-variants.{Empty, Used, Bits, EndByte, Length}
 use Rattle.rules.specs.declared.Kind.{Kind}
-use Rattle.rules.specs.declared.Kind.the-variants.{Erase, Write, Verify, Sum}
+use Rattle.rules.specs.declared.Kind.the-variants.{Erase, Write, Verify, Sum, Blank, Lock}
 
 abbrev number : ℕ → ℕ → Number
 number l n = record { letter = l; number = n }
 
--- Status bytes (D), The job sheet (J, P); 02, M-109 (E)
+-- Status bytes (D), The job sheet (J, P); 02, M-109 (E) and M-106 (J11 to J16)
 abbrev pub refusalNumber : Refusal → Number
 refusalNumber D0 = number 0x44 0
 refusalNumber D1 = number 0x44 1
@@ -39,6 +39,11 @@ refusalNumber J7 = number 0x4A 7
 refusalNumber J8 = number 0x4A 8
 refusalNumber J9 = number 0x4A 9
 refusalNumber J10 = number 0x4A 10
+refusalNumber J11 = number 0x4A 11
+refusalNumber J12 = number 0x4A 12
+refusalNumber J14 = number 0x4A 14
+refusalNumber J15 = number 0x4A 15
+refusalNumber J16 = number 0x4A 16
 refusalNumber P1 = number 0x50 1
 refusalNumber P2 = number 0x50 2
 
@@ -63,12 +68,14 @@ abbrev pub statusNumber : Status → Number
 statusNumber (Byte b) = number 0 b
 statusNumber L1 = number 0x4C 1
 
--- "Kinds: 1 erase, 2 write, 3 verify, 4 sum"
+-- "Kinds: 1 erase, 2 write, 3 verify, 4 sum"; 02, M-106: "kind 5, blank check .., and kind 6, lock"
 abbrev pub kindNumber : Kind → ℕ
 kindNumber Erase = 1
 kindNumber Write = 2
 kindNumber Verify = 3
 kindNumber Sum = 4
+kindNumber Blank = 5
+kindNumber Lock = 6
 
 -- 02, M-100 and M-101: what a note says, in numbers: which note it is; then its flash (0 code, 1 data), block and page, or the LEN expected and found
 abbrev pub flashNumber : Flash → ℕ

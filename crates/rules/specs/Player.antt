@@ -10,7 +10,7 @@ use Rattle.rules.specs.declared.Verdict.{Verdict}
 use Rattle.rules.specs.declared.Verdict.the-variants.{Accepted}
 use Rattle.rules.specs.declared.Verdict.the-variants as v
 use Rattle.rules.specs.declared.Kind.{Kind}
-use Rattle.rules.specs.declared.Kind.the-variants.{Erase, Write, Verify, Sum}
+use Rattle.rules.specs.declared.Kind.the-variants.{Erase, Write, Verify, Sum, Blank, Lock}
 use Rattle.rules.specs.declared.Step.{Step}
 use Rattle.rules.specs.declared.Stage.{Stage}
 use Rattle.rules.specs.declared.Stage.the-variants.{New, Ready, Block, Commanded, Page, Paged, Over}
@@ -23,8 +23,8 @@ use Rattle.rules.specs.declared.Next.the-variants.{Refused, Frame, End}
 use Rattle.rules.specs.First.{refuse, firstBroken, andThen}
 use Rattle.rules.specs.Chip.{byteAt, wordAt, addressBytes, over, block, firstByte, lastByte}
 use Rattle.rules.specs.Frame.{commandStart, dataStart, lastEnd, endDue, frame, addsUp}
-use Rattle.rules.specs.Command.{verifyCode, eraseCode, programmingCode, checksumCode}
-use Rattle.rules.specs.Sheet.{count, stepAt, stepBlocks, stepPages, bodyPage, verdict}
+use Rattle.rules.specs.Command.{verifyCode, eraseCode, blankCheckCode, programmingCode, securitySetCode, checksumCode}
+use Rattle.rules.specs.Sheet.{count, clears, stepAt, stepBlocks, stepPages, bodyPage, verdict}
 use Rattle.rules.specs.Numbers.{kindNumber}
 
 abbrev pub player : Stage → ℕ → ℕ → ℕ → ℕ → Status → Player
@@ -62,6 +62,14 @@ sumReply r =
 
 abbrev pub sumIn : List ℕ → ℕ
 sumIn r = wordAt r 7
+
+-- 02, M-106: "A lock that clears IFPR gets no answer": due is exactly none; to any other lock, one byte
+abbrev pub noReply : List ℕ → Status
+noReply [] = well
+noReply (b ∷ r) = L1
+
+unfoldable pub lockReply : Step → List ℕ → Status
+lockReply t r = cond (clears (t .flags)) (noReply r) (commandReply r)
 
 -- "to a data frame, one of two bytes"; "The status of a pair is its first byte unless that is 06h, then its second"
 unfoldable pub dataReply : List ℕ → Status
@@ -103,6 +111,8 @@ pagesSure Erase at = 0
 pagesSure Write at = at - 1
 pagesSure Verify at = 0
 pagesSure Sum at = 0
+pagesSure Blank at = 0
+pagesSure Lock at = 0
 
 unfoldable pub erasedBlock : List ℕ → Step → Player → List ℕ → List ℕ → Absorbed
 erasedBlock s t p r sums =
@@ -112,8 +122,9 @@ erasedBlock s t p r sums =
 unfoldable pub openedPages : Kind → Player → List ℕ → List ℕ → Absorbed
 openedPages k p r sums = cond (isWell (commandReply r)) (goesOn (Page k) p 0 sums) (stopped p (commandReply r) 0 sums)
 
-unfoldable pub tookSum : List ℕ → Player → List ℕ → List ℕ → Absorbed
-tookSum s p r sums = cond (isWell (sumReply r)) (finished s p (sumIn r) sums) (stopped p (sumReply r) 0 sums)
+-- of a step of one frame: the status told, and its sum
+unfoldable pub tookOnce : List ℕ → Player → Status → ℕ → List ℕ → Absorbed
+tookOnce s p st sum sums = cond (isWell st) (finished s p sum sums) (stopped p st 0 sums)
 
 unfoldable pub sentPage : Kind → List ℕ → Step → Player → List ℕ → List ℕ → Absorbed
 sentPage k s t p r sums =
@@ -129,7 +140,9 @@ unfoldable pub absorbCommand : Kind → List ℕ → Step → Player → List �
 absorbCommand Erase s t p r sums = erasedBlock s t p r sums
 absorbCommand Write s t p r sums = openedPages Write p r sums
 absorbCommand Verify s t p r sums = openedPages Verify p r sums
-absorbCommand Sum s t p r sums = tookSum s p r sums
+absorbCommand Sum s t p r sums = tookOnce s p (sumReply r) (sumIn r) sums
+absorbCommand Blank s t p r sums = tookOnce s p (commandReply r) 0 sums
+absorbCommand Lock s t p r sums = tookOnce s p (lockReply t r) 0 sums
 
 unfoldable pub absorbBy : Stage → List ℕ → Step → Player → List ℕ → List ℕ → Absorbed
 unfolding absorbCommand
@@ -167,10 +180,18 @@ silent p = record { player = p; bytes = [] }
 abbrev pub command : List ℕ → List ℕ
 command body = frame commandStart lastEnd body
 
+abbrev pub pairBytes : Step → List ℕ
+pairBytes t = addressBytes (firstByte (t .flash) (t .first)) ++ addressBytes (lastByte (t .flash) (t .last))
+
 abbrev pub pairCommand : ℕ → Step → List ℕ
-pairCommand code t =
-    command
-    (code ∷ (addressBytes (firstByte (t .flash) (t .first)) ++ addressBytes (lastByte (t .flash) (t .last))))
+pairCommand code t = command (code ∷ pairBytes t)
+
+-- 02, M-106: a blank check "of flash alone", TAR 00h; a lock's SF1 and SF2, and the reserved byte
+abbrev pub blankCommand : Step → List ℕ
+blankCommand t = command (blankCheckCode ∷ (pairBytes t ++ (0x00 ∷ [])))
+
+abbrev pub lockCommand : Step → List ℕ
+lockCommand t = command (securitySetCode ∷ t .flags .sf1 ∷ t .flags .sf2 ∷ 0x00 ∷ [])
 
 abbrev pub blockCommand : Step → ℕ → List ℕ
 blockCommand t at = command (eraseCode ∷ addressBytes (firstByte (t .flash) (block (t .first .0 + at))))
@@ -184,6 +205,8 @@ firstCommand Erase t = blockCommand t 0
 firstCommand Write t = pairCommand programmingCode t
 firstCommand Verify t = pairCommand verifyCode t
 firstCommand Sum t = pairCommand checksumCode t
+firstCommand Blank t = blankCommand t
+firstCommand Lock t = lockCommand t
 
 unfoldable pub emitBy : Stage → List ℕ → Step → Player → Sent
 unfolding firstCommand
@@ -230,6 +253,8 @@ commandIn Erase t at = ltb at (stepBlocks t)
 commandIn Write t at = true
 commandIn Verify t at = true
 commandIn Sum t at = true
+commandIn Blank t at = true
+commandIn Lock t at = true
 
 -- the page of a write or a verify; the other kinds have none
 unfoldable pub pageIn : Kind → Step → ℕ → Bool
@@ -237,6 +262,8 @@ pageIn Erase t at = false
 pageIn Write t at = ltb at (stepPages t)
 pageIn Verify t at = ltb at (stepPages t)
 pageIn Sum t at = false
+pageIn Blank t at = false
+pageIn Lock t at = false
 
 unfoldable pub lostIn : Stage → ℕ → Step → Player → Bool
 unfolding commandIn pageIn

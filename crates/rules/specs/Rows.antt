@@ -23,7 +23,7 @@ use Rattle.rules.specs.Sheet.{verdict}
 use Rattle.rules.specs.Meaning.{Ended, meaning, stepFrames}
 use Rattle.rules.specs.Numbers.{noteNumbers, callNumber, verdictNumber, nextNumber, statusNumber}
 use Rattle.rules.specs.Player.{called}
-use Rattle.rules.specs.Run.{Joined, clean, joinedAtStart, run, waits}
+use Rattle.rules.specs.Run.{Joined, clean, joinedAtStart, run, waits, settled}
 
 -- ---- numbers, options and memories compared ----
 
@@ -133,6 +133,7 @@ pub record Play : Type 0 where
   pub pieces : ℕ
   pub sums : List ℕ
   pub each : List ℕ
+  pub optionsAfter : Options
   pub memoryAfter : Memory
 
 -- a report of those four
@@ -157,7 +158,7 @@ abbrev pub meant : Ended → Play → Bool
 meant e t =
     reports (e .report) (t .status) (t .steps) (t .frames) (t .pieces)
     && same (e .sums) (t .sums)
-    && sameOptions (e .options) (t .options)
+    && sameOptions (e .options) (t .optionsAfter)
     && sameMemory (e .memory) (t .memoryAfter)
 
 abbrev pub ranTo : Joined → Play → Bool
@@ -170,9 +171,9 @@ ranTo j t =
     (t .frames)
     (t .pieces)
     && same (j .sums) (t .sums)
-    && sameOptions (j .state .options) (t .options)
+    && sameOptions (j .state .options) (t .optionsAfter)
     && sameMemory (j .state .memory) (t .memoryAfter)
-    && waits (t .chip) (j .state)
+    && settled (t .chip) (j .state)
 
 -- the opening: mode 3Ah; 9Ah with BRT 0 and VDD 21h
 abbrev pub mode : List ℕ
@@ -197,6 +198,25 @@ plays t =
 unfoldable pub allPlay : List Play → Bool
 allPlay [] = true
 allPlay (t ∷ ts) = plays t && allPlay ts
+
+-- a refused sheet, for that chip
+abbrev pub refusedBy : Chip → List ℕ → Number → Play
+refusedBy chip s said =
+    record {
+      chip = chip;
+      options = freshOptions;
+      memory = freshMemory small;
+      sheet = s;
+      verdict = said;
+      status = plain 0;
+      steps = 0;
+      frames = 0;
+      pieces = 0;
+      sums = noSums;
+      each = [];
+      optionsAfter = freshOptions;
+      memoryAfter = freshMemory small;
+    }
 
 -- ---- single calls, by the lengths of what is lent ----
 

@@ -1,6 +1,6 @@
 -- The player and the stand-in joined by a line: built from Player and StandIn alone. Assumes nothing.
 use Prim.Native.Nat.{ℕ, zero, suc, _+_}
-use mathlib.Core.Bool.{Bool, true, false, cond}
+use mathlib.Core.Bool.{Bool, true, false, cond, _&&_}
 use mathlib.Core.List.{List, [], _∷_, _++_}
 use Rattle.rules.specs.declared.Chip.{Chip}
 use Rattle.rules.specs.declared.Player.{Player}
@@ -11,9 +11,11 @@ use Rattle.rules.specs.declared.Phase.the-variants.{Mode, Speed, Ident, 
 use Rattle.rules.specs.declared.Task.{Task}
 use Rattle.rules.specs.declared.Task.the-variants.{Idle, Programming, Verifying}
 use Rattle.rules.specs.declared.Kind.{Kind}
-use Rattle.rules.specs.declared.Kind.the-variants.{Erase, Write, Verify, Sum}
+use Rattle.rules.specs.declared.Kind.the-variants.{Erase, Write, Verify, Sum, Blank, Lock}
 use Rattle.rules.specs.declared.Step.{Step}
+use lib.Dec.{eqb}
 use Rattle.rules.specs.Chip.{over}
+use Rattle.rules.specs.Options.{IFPR}
 use Rattle.rules.specs.StandIn.{State, feed, taskNow}
 use Rattle.rules.specs.Sheet.{count, stepAt, stepBlocks, stepPages}
 use Rattle.rules.specs.Player.{absorbed, emitted, newPlayer}
@@ -110,6 +112,8 @@ mostFor Erase t = stepBlocks t
 mostFor Write t = 1 + stepPages t
 mostFor Verify t = 1 + stepPages t
 mostFor Sum t = 1
+mostFor Blank t = 1
+mostFor Lock t = 1
 
 unfoldable pub mostFrames : Step → ℕ
 unfolding mostFor
@@ -133,7 +137,8 @@ run line chip s j = runFrom line chip s 0 (mostCalls chip s) (takenIn chip s j)
 unfoldable pub stepRun : Line → Chip → List ℕ → ℕ → Joined → Ran
 stepRun line chip s k j = stepFrom line chip s k (mostFrames (stepAt chip s (j .player .step))) j
 
--- a stand-in that waits for a command: phase Command, no command begun, nothing half received
+-- a stand-in that waits for a command: phase Command, IFPR 1, no command begun, nothing half received. No power-on leads to phase Command with
+-- IFPR 0 (02, M-106: there a lock would get no answer, whatever its flags)
 unfoldable pub waitsIn : Phase → Task → List ℕ → Bool
 waitsIn Mode t g = false
 waitsIn Speed t g = false
@@ -146,4 +151,15 @@ waitsIn Silent t g = false
 
 unfoldable pub waits : Chip → State → Bool
 unfolding waitsIn
-waits chip s = waitsIn (s .phase) (taskNow chip (s .phase) (s .task)) (s .got)
+waits chip s = waitsIn (s .phase) (taskNow chip (s .phase) (s .task)) (s .got) && eqb (IFPR (s .options)) 1
+
+-- a stand-in after a play: it waits for a command again, or, where a lock cleared IFPR, it is Silent (02, M-106)
+abbrev pub isSilent : Phase → Bool
+isSilent Mode = false
+isSilent Speed = false
+isSilent Ident = false
+isSilent Command = false
+isSilent Silent = true
+
+unfoldable pub settled : Chip → State → Bool
+settled chip s = cond (eqb (IFPR (s .options)) 1) (waits chip s) (isSilent (s .phase))

@@ -1,5 +1,6 @@
--- 01, The job sheet: what stands in it, when it is refused and by which number, and the steps of an accepted one. Assumes nothing.
-use Prim.Native.Nat.{ℕ, zero, suc, _+_, _-_, _*_}
+-- 01, The job sheet, and 02, M-106, its form 2: what stands in it, when it is refused and by which number, and the steps of an accepted one.
+-- Assumes nothing.
+use Prim.Native.Nat.{ℕ, zero, suc, _+_, _-_, _*_, _/_, _%_}
 use mathlib.Core.Bool.{Bool, cond, not, _&&_, _||_}
 use mathlib.Core.List.{List, [], _∷_}
 use lib.Dec.{ltb, leb, eqb}
@@ -13,19 +14,51 @@ use Rattle.rules.specs.declared.Refusal.the-variants as r
 use Rattle.rules.specs.declared.Verdict.{Verdict}
 use Rattle.rules.specs.declared.Verdict.the-variants.{Accepted}
 use Rattle.rules.specs.declared.Kind.{Kind}
-use Rattle.rules.specs.declared.Kind.the-variants.{Erase, Write, Verify, Sum}
+use Rattle.rules.specs.declared.Kind.the-variants.{Erase, Write, Verify, Sum, Blank, Lock}
+use Rattle.rules.specs.declared.Flags.{Flags}
 use Rattle.rules.specs.declared.Step.{Step}
 use Rattle.rules.specs.First.{refuse, firstBroken, andThen}
-use Rattle.rules.specs.Chip.{byteAt, wordAt, addressAt, known, block, blockSize, blocksFrom, pagesFrom, pageSize, range, invalid}
+use Rattle.rules.specs.Chip.{byteAt, wordAt, addressAt, small, large, sameCounts, known, block, blockSize, blocksFrom, pagesFrom, pageSize, range, invalid}
+use Rattle.rules.specs.Options.{bit}
+
+-- ---- the two forms (02, M-106) ----
+
+-- "Form 2 begins FEh 02h"
+unfoldable pub formTwo : List ℕ → Bool
+formTwo s = eqb (byteAt s 0) 0xFE && eqb (byteAt s 1) 0x02
+
+-- what a form fixes: how many bytes its head has, of which the count is the last two; the most bytes of a sheet; the last kind of step
+pub record Form : Type 0 where
+  pub head : ℕ
+  pub most : ℕ
+  pub kinds : ℕ
+
+-- "Step count n in two bytes"; "over 65,536 bytes"; "Kinds: 1 erase, 2 write, 3 verify, 4 sum"
+abbrev pub one : Form
+one = record { head = 2; most = 65536; kinds = 4 }
+
+-- "FEh 02h, chip number 1 or 2, a zero byte, the count"; "at most 65,540 bytes"; "adds kind 5 .. and kind 6"
+abbrev pub two : Form
+two = record { head = 6; most = 65540; kinds = 6 }
+
+abbrev pub form : List ℕ → Form
+form s = cond (formTwo s) two one
+
+-- "A form 2 sheet is judged against the chip it names, a form 1 sheet .. against chip 1"
+abbrev pub chipNumber : List ℕ → ℕ
+chipNumber s = byteAt s 2
+
+unfoldable pub against : List ℕ → Chip
+against s = cond (formTwo s && eqb (chipNumber s) 2) large small
 
 -- ---- what stands where ----
 
--- "Step count n in two bytes, low first, 0 to 64": that is the whole head
+-- "Step count n in two bytes, low first, 0 to 64"
 unfoldable pub headSize : List ℕ → ℕ
-headSize s = 2
+headSize s = form s .head
 
 unfoldable pub count : List ℕ → ℕ
-count s = wordAt s 0
+count s = wordAt s (form s .head - 2)
 
 abbrev pub mostSteps : ℕ
 mostSteps = 64
@@ -40,13 +73,11 @@ entryAt s i = headSize s + entrySize * i
 abbrev pub tableEnd : List ℕ → ℕ
 tableEnd s = entryAt s (count s)
 
--- "over 65,536 bytes"
 unfoldable pub mostBytes : List ℕ → ℕ
-mostBytes s = 65536
+mostBytes s = form s .most
 
--- "Kinds: 1 erase, 2 write, 3 verify, 4 sum"
 unfoldable pub lastKind : List ℕ → ℕ
-lastKind s = 4
+lastKind s = form s .kinds
 
 -- "An entry: kind, SAD (3), EAD (3), a zero byte, body offset (4, low first)"
 abbrev pub kindAt : List ℕ → ℕ → ℕ
@@ -64,17 +95,40 @@ zeroAt s i = byteAt s (entryAt s i + 7)
 abbrev pub offsetAt : List ℕ → ℕ → ℕ
 offsetAt s i = wordAt s (entryAt s i + 8) + 65536 * wordAt s (entryAt s i + 10)
 
+-- 02, M-106: "kind 6, lock, whose SAD bytes are SF1, SF2, 0 and whose EAD is 0"
+abbrev pub lockKind : ℕ
+lockKind = 6
+
+abbrev pub flagsOf : Address → Flags
+flagsOf sad = record { sf1 = sad .0 % 256; sf2 = sad .0 / 256 % 256 }
+
+abbrev pub flagsAt : List ℕ → ℕ → Flags
+flagsAt s i = flagsOf (sadAt s i)
+
+abbrev pub isLock : List ℕ → ℕ → Bool
+isLock s i = eqb (kindAt s i) lockKind
+
+abbrev pub filled : List ℕ → ℕ → Bool
+filled s i = eqb (sadAt s i .0 / 65536 % 256) 0 && eqb (eadAt s i .0) 0
+
+-- "a lock that clears IFPR": bit 2 of its SF2 is 0
+abbrev pub clears : Flags → Bool
+clears f = eqb (bit 2 (f .sf2)) 0
+
+abbrev pub isLast : List ℕ → ℕ → Bool
+isLast s i = eqb (i + 1) (count s)
+
 abbrev pub rangeAt : Chip → List ℕ → ℕ → Range
 rangeAt chip s i = range chip (sadAt s i) (eadAt s i)
 
--- "Write and verify have a body of EAD − SAD + 1 bytes; the others none"
+-- "Write and verify have a body of EAD − SAD + 1 bytes; the others none"; 02: "each .. has no body"
 unfoldable pub bodyLength : List ℕ → ℕ → ℕ
 bodyLength s i = cond (eqb (kindAt s i) 2 || eqb (kindAt s i) 3) (eadAt s i .0 - sadAt s i .0 + 1) 0
 
 abbrev pub bodyEnd : List ℕ → ℕ → ℕ
 bodyEnd s i = offsetAt s i + bodyLength s i
 
--- "The first offset is 2 + 12n; each later one is the offset before it plus the body length of that earlier entry"
+-- "The first offset is 2 + 12n", in form 2 "6 + 12n"; "each later one is the offset before it plus the body length of that earlier entry"
 unfoldable pub offsetDue : List ℕ → ℕ → ℕ
 offsetDue s i = cond (eqb i 0) (tableEnd s) (bodyEnd s (i - 1))
 
@@ -90,6 +144,10 @@ J2 s = ltb mostSteps (count s)
 abbrev pub J3 : List ℕ → Bool
 J3 s = ltb (length s) (tableEnd s)
 
+-- 02, M-106: "after J2, J11 bad chip number or zero byte"
+abbrev pub J11 : List ℕ → Bool
+J11 s = formTwo s && not ((eqb (chipNumber s) 1 || eqb (chipNumber s) 2) && eqb (byteAt s 3) 0)
+
 -- "entry by entry J4 kind, J5 zero byte, J6 address pair, J7 offset, J8 body past the end"
 abbrev pub J4 : List ℕ → ℕ → Bool
 J4 s i = not (leb 1 (kindAt s i) && leb (kindAt s i) (lastKind s))
@@ -97,8 +155,13 @@ J4 s i = not (leb 1 (kindAt s i) && leb (kindAt s i) (lastKind s))
 abbrev pub J5 : List ℕ → ℕ → Bool
 J5 s i = not (eqb (zeroAt s i) 0)
 
+-- "J6 isn't applied to kind 6"
 abbrev pub J6 : Chip → List ℕ → ℕ → Bool
-J6 chip s i = invalid (rangeAt chip s i)
+J6 chip s i = not (isLock s i) && invalid (rangeAt chip s i)
+
+-- 02, M-106: "J12 after J6 for kind 6 that clears IFPR and isn't last, or has wrong filler"
+abbrev pub J12 : List ℕ → ℕ → Bool
+J12 s i = isLock s i && (clears (flagsAt s i) && not (isLast s i) || not (filled s i))
 
 abbrev pub J7 : List ℕ → ℕ → Bool
 J7 s i = not (eqb (offsetAt s i) (offsetDue s i))
@@ -110,13 +173,18 @@ J8 s i = ltb (length s) (bodyEnd s i)
 abbrev pub J9 : List ℕ → Bool
 J9 s = not (eqb (length s) (offsetDue s (count s)))
 
+-- 02, M-106: "J14, just before J10, when the chip to be played to is another than the sheet's"
+abbrev pub J14 : Chip → List ℕ → Bool
+J14 chip s = not (sameCounts chip (against s))
+
 abbrev pub J10 : List ℕ → ℕ → Bool
 J10 s room = ltb room (count s)
 
 -- ---- the verdict: "first that applies" ----
 
 unfoldable pub headVerdict : List ℕ → Verdict
-headVerdict s = firstBroken (refuse r.J1 (J1 s) ∷ refuse r.J2 (J2 s) ∷ refuse r.J3 (J3 s) ∷ [])
+headVerdict s =
+    firstBroken (refuse r.J1 (J1 s) ∷ refuse r.J2 (J2 s) ∷ refuse r.J11 (J11 s) ∷ refuse r.J3 (J3 s) ∷ [])
 
 unfoldable pub entryVerdict : Chip → List ℕ → ℕ → Verdict
 entryVerdict chip s i =
@@ -124,6 +192,7 @@ entryVerdict chip s i =
     (refuse r.J4 (J4 s i)
     ∷ refuse r.J5 (J5 s i)
     ∷ refuse r.J6 (J6 chip s i)
+    ∷ refuse r.J12 (J12 s i)
     ∷ refuse r.J7 (J7 s i)
     ∷ refuse r.J8 (J8 s i)
     ∷ [])
@@ -134,33 +203,36 @@ entriesVerdict chip s i zero = Accepted
 entriesVerdict chip s i (suc left) =
     let later = entriesVerdict chip s (i + 1) left in andThen (entryVerdict chip s i) later
 
--- the sheet's own rules, J1 to J9
-unfoldable pub sheetVerdict : Chip → List ℕ → Verdict
-sheetVerdict chip s =
-    let entries = entriesVerdict chip s 0 (count s) in
+-- the sheet's own rules, J1 to J9, J11 and J12, judged against the chip that it names
+unfoldable pub sheetVerdict : List ℕ → Verdict
+sheetVerdict s =
+    let entries = entriesVerdict (against s) s 0 (count s) in
     let later = andThen entries (firstBroken (refuse r.J9 (J9 s) ∷ [])) in
     andThen (headVerdict s) later
 
--- THE VERDICT, of a sheet and the room in the list for sums: D0 "before every J" (02, M-105), the sheet's own rules, then J10
+-- THE VERDICT, of a sheet for a chip and the room in the list for sums: D0 "before every J" (02, M-105), the sheet's own rules, J14, then J10
 unfoldable pub verdict : Chip → List ℕ → ℕ → Verdict
 verdict chip s room =
-    let own = sheetVerdict chip s in
+    let own = sheetVerdict s in
     andThen (firstBroken (refuse r.D0 (not (known chip)) ∷ []))
-    (andThen own (firstBroken (refuse r.J10 (J10 s room) ∷ [])))
+    (andThen own (firstBroken (refuse r.J14 (J14 chip s) ∷ refuse r.J10 (J10 s room) ∷ [])))
 
 -- ---- the steps of an accepted sheet ----
 
--- "Kinds: 1 erase, 2 write, 3 verify, 4 sum"
+-- "Kinds: 1 erase, 2 write, 3 verify, 4 sum"; 02, M-106: "kind 5, blank check .., and kind 6, lock"
 abbrev pub kindOf : ℕ → Kind
-kindOf k = cond (eqb k 1) Erase (cond (eqb k 2) Write (cond (eqb k 3) Verify Sum))
+kindOf k =
+    cond (eqb k 1) Erase (cond (eqb k 2) Write (cond (eqb k 3) Verify (cond (eqb k 5) Blank (cond (eqb k lockKind) Lock Sum))))
 
-unfoldable pub stepOf : Kind → Range → ℕ → Step
-stepOf k (Blocks f a b) body = record { kind = k; flash = f; first = a; last = b; body = body }
-stepOf k Invalid body = record { kind = k; flash = Code; first = block 0; last = block 0; body = body }
+-- a lock names no blocks, and is given the first
+unfoldable pub stepOf : Kind → Range → Flags → ℕ → Step
+stepOf k (Blocks f a b) flags body = record { kind = k; flash = f; first = a; last = b; flags = flags; body = body }
+stepOf k Invalid flags body =
+    record { kind = k; flash = Code; first = block 0; last = block 0; flags = flags; body = body }
 
 unfoldable pub stepAt : Chip → List ℕ → ℕ → Step
 unfolding stepOf
-stepAt chip s i = stepOf (kindOf (kindAt s i)) (rangeAt chip s i) (offsetAt s i)
+stepAt chip s i = stepOf (kindOf (kindAt s i)) (rangeAt chip s i) (flagsAt s i) (offsetAt s i)
 
 abbrev pub stepBlocks : Step → ℕ
 stepBlocks t = blocksFrom (t .first) (t .last)

@@ -11,7 +11,7 @@ use Rattle.rules.specs.declared.Refusal.{Refusal}
 use Rattle.rules.specs.declared.Verdict.{Verdict}
 use Rattle.rules.specs.declared.Verdict.the-variants.{Accepted, Refused}
 use Rattle.rules.specs.declared.Kind.{Kind}
-use Rattle.rules.specs.declared.Kind.the-variants.{Erase, Write, Verify, Sum}
+use Rattle.rules.specs.declared.Kind.the-variants.{Erase, Write, Verify, Sum, Blank, Lock}
 use Rattle.rules.specs.declared.Status.{Status}
 use Rattle.rules.specs.declared.Status.the-variants.{Byte, L1}
 use Rattle.rules.specs.declared.Report.{Report}
@@ -59,6 +59,8 @@ kindText Erase = ascii "erase"
 kindText Write = ascii "write"
 kindText Verify = ascii "verify"
 kindText Sum = ascii "sum"
+kindText Blank = ascii "blank"
+kindText Lock = ascii "lock"
 
 -- ---- lines ----
 

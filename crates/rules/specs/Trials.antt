@@ -14,7 +14,7 @@ use Rattle.rules.specs.Chip.{Memory, small}
 use Rattle.rules.specs.Options.{freshOptions}
 use Rattle.rules.specs.Frame.{dataStart, lastEnd, moreEnd, frame}
 use Rattle.rules.specs.Player.{player, newPlayer, well}
-use Rattle.rules.specs.Rows.{plain, D, J, P, L, Exchange, to, toNoted, Session, Play, noSums, unreached, mode, speed, Lending, Calling, blankFlash, ack, session, onFresh, onFreshNoted, optioned, ending, flags, noBoot, noErase, noWrite, askIdent, command, filled, page, badSum, one, pair, onePage, twoPages, paged, entryIn, entry}
+use Rattle.rules.specs.Rows.{plain, D, J, P, L, Exchange, to, toNoted, Session, Play, refusedBy, noSums, unreached, mode, speed, Lending, Calling, blankFlash, ack, session, onFresh, onFreshNoted, optioned, ending, flags, noBoot, noErase, noWrite, askIdent, command, filled, page, badSum, one, pair, onePage, twoPages, paged, entryIn, entry}
 
 -- ---- sessions ----
 
@@ -245,21 +245,7 @@ further =
 -- ---- sheets ----
 
 abbrev refusedAs : ℕ → List ℕ → Play
-refusedAs n s =
-    record {
-      chip = small;
-      options = freshOptions;
-      memory = blankFlash;
-      sheet = s;
-      verdict = J n;
-      status = plain 0;
-      steps = 0;
-      frames = 0;
-      pieces = 0;
-      sums = noSums;
-      each = [];
-      memoryAfter = blankFlash;
-    }
+refusedAs n s = refusedBy small s (J n)
 
 abbrev playing : Options → Memory → List ℕ → ℕ → ℕ → ℕ → ℕ → List ℕ → List ℕ → Memory → Play
 playing o m s status steps frames pieces sums each after =
@@ -275,6 +261,7 @@ playing o m s status steps frames pieces sums each after =
       pieces = pieces;
       sums = sums;
       each = each;
+      optionsAfter = o;
       memoryAfter = after;
     }
 

@@ -145,6 +145,11 @@ pub enum Refusal {
     J8,
     J9,
     J10,
+    J11,
+    J12,
+    J14,
+    J15,
+    J16,
     P1,
     P2,
 }
@@ -165,14 +170,23 @@ pub enum Kind {
     Write,
     Verify,
     Sum,
+    Blank,
+    Lock,
 }
 
-// A step of a sheet: its kind, its blocks and where its body stands in the sheet.
+// The two flag bytes that a lock sends.
+pub struct Flags {
+    pub sf1: u8,
+    pub sf2: u8,
+}
+
+// A step of a sheet: its kind, its blocks (of a lock its flags) and where its body stands in the sheet.
 pub struct Step {
     pub kind: Kind,
     pub flash: Flash,
     pub first: Block,
     pub last: Block,
+    pub flags: Flags,
     pub body: usize,
 }
 
@@ -217,4 +231,10 @@ pub enum Next {
     Refused(Refusal),
     Frame(usize),
     End,
+}
+
+// The answer of a move of a sheet to the other form: a sheet of so many bytes, or the refusal.
+pub enum Moved {
+    Sheet(usize),
+    Refused(Refusal),
 }

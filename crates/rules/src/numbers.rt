@@ -29,6 +29,11 @@ fn letter_of(refusal: Refusal) -> u8
         Refusal::J8 => b'J',
         Refusal::J9 => b'J',
         Refusal::J10 => b'J',
+        Refusal::J11 => b'J',
+        Refusal::J12 => b'J',
+        Refusal::J14 => b'J',
+        Refusal::J15 => b'J',
+        Refusal::J16 => b'J',
         Refusal::P1 => b'P',
         Refusal::P2 => b'P',
     }
@@ -53,6 +58,11 @@ fn number_of(refusal: Refusal) -> u8
         Refusal::J8 => 8,
         Refusal::J9 => 9,
         Refusal::J10 => 10,
+        Refusal::J11 => 11,
+        Refusal::J12 => 12,
+        Refusal::J14 => 14,
+        Refusal::J15 => 15,
+        Refusal::J16 => 16,
         Refusal::P1 => 1,
         Refusal::P2 => 2,
     }
@@ -77,5 +87,7 @@ pub fn kind_number(kind: Kind) -> u8
         Kind::Write => 2,
         Kind::Verify => 3,
         Kind::Sum => 4,
+        Kind::Blank => 5,
+        Kind::Lock => 6,
     }
 }

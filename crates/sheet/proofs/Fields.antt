@@ -11,16 +11,16 @@ use lib.Seq.{take-all, drop-drop, getD-drop}
 use Rattle.rules.specs.declared.Address.{Address}
 use Rattle.rules.specs.declared.Chip.{Chip}
 use Rattle.rules.specs.Chip.{byteAt, wordAt, addressAt, range}
-use Rattle.rules.specs.Sheet.{count, tableEnd, entryAt, kindAt, zeroAt, offsetAt, rangeAt, bodyLength, bodyEnd, offsetDue, kindOf, stepOf, stepAt}
+use Rattle.rules.specs.Sheet.{form, count, tableEnd, entryAt, kindAt, zeroAt, offsetAt, flagsOf, isLast, J6, J12, bodyLength, bodyEnd, offsetDue, kindOf, stepOf, stepAt}
 use Rattle.sheet.specs.declared.table.Entry.{Entry}
-use Rattle.sheet.specs.Entry.{entryIn, fieldsOf, lengthOf, endOf}
+use Rattle.sheet.specs.Entry.{entryIn, fieldsOf, lengthOf, endOf, pairWrong, lockWrong}
 
 -- ---- the head ----
 
 -- a sheet of bytes says no more than 65,535 steps
 pub few-steps : (s : List ℕ) → ((i : ℕ) → byteAt s i < 256) → count s < 65536
 unfolding count
-few-steps s bytes = omega (arith, bytes 0, bytes 1)
+few-steps s bytes = let at = form s .head - 2 in omega (arith, bytes at, bytes (at + 1))
 
 -- ---- what is cut from a place on ----
 
@@ -54,17 +54,19 @@ entry-there s i e h =
 -- what an entry that was read says of the sheet
 pub record Says (s : List ℕ) (i : ℕ) (e : Entry) : Type 0 where
   pub kind : e .kind ≡ kindAt s i
-  pub pair : (chip : Chip) → range chip (e .sad) (e .ead) ≡ rangeAt chip s i
+  pub pair : (chip : Chip) → pairWrong chip e ≡ J6 chip s i
+  pub lock : lockWrong e (isLast s i) ≡ J12 s i
   pub zero : e .zero ≡ zeroAt s i
   pub offset : e .offset ≡ offsetAt s i
   pub end : endOf e ≡ bodyEnd s i
 
 pub says : (s : List ℕ) (i : ℕ) (e : Entry) → e ≡ entryIn s i → Says s i e
-unfolding lengthOf bodyLength
+unfolding lengthOf bodyLength pairWrong lockWrong
 says s i e h =
     record {
       kind = ap (λ x. x .kind) h;
-      pair = λ chip. ap (λ x. range chip (x .sad) (x .ead)) h;
+      pair = λ chip. ap (pairWrong chip) h;
+      lock = ap (λ x. lockWrong x (isLast s i)) h;
       zero = ap (λ x. x .zero) h;
       offset = ap (λ x. x .offset) h;
       end = ap endOf h;
@@ -72,9 +74,9 @@ says s i e h =
 
 -- the step that such an entry says
 pub step-said : (chip : Chip) (s : List ℕ) (i : ℕ) (e : Entry) → e ≡ entryIn s i
-    → stepOf (kindOf (e .kind)) (range chip (e .sad) (e .ead)) (e .offset) ≡ stepAt chip s i
+    → stepOf (kindOf (e .kind)) (range chip (e .sad) (e .ead)) (flagsOf (e .sad)) (e .offset) ≡ stepAt chip s i
 unfolding stepAt
-step-said chip s i e h = ap (λ x. stepOf (kindOf (x .kind)) (range chip (x .sad) (x .ead)) (x .offset)) h
+step-said chip s i e h = ap (λ x. stepOf (kindOf (x .kind)) (range chip (x .sad) (x .ead)) (flagsOf (x .sad)) (x .offset)) h
 
 -- ---- the length of a body ----
 

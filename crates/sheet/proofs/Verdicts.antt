@@ -10,10 +10,10 @@ use Rattle.rules.specs.declared.Chip.{Chip}
 use Rattle.rules.specs.declared.Refusal.{Refusal}
 use Rattle.rules.specs.declared.Refusal.the-variants as r
 use Rattle.rules.specs.declared.Verdict.the-variants.{Accepted, Refused}
-use Rattle.rules.specs.Chip.{known, invalid}
+use Rattle.rules.specs.Chip.{known}
 use Rattle.rules.specs.First.{first}
 use Rattle.rules.proofs.Choices.{or-true, and-false}
-use Rattle.rules.specs.Sheet.{headSize, count, tableEnd, mostBytes, lastKind, kindAt, zeroAt, rangeAt, offsetAt, offsetDue, bodyEnd, J1, J4, J9, headVerdict, entryVerdict, entriesVerdict, sheetVerdict, verdict, stepAt}
+use Rattle.rules.specs.Sheet.{against, headSize, count, tableEnd, mostBytes, lastKind, kindAt, zeroAt, offsetAt, offsetDue, bodyEnd, J1, J4, J6, J9, J11, J12, J14, headVerdict, entryVerdict, entriesVerdict, sheetVerdict, verdict, stepAt}
 use Rattle.sheet.specs.declared.Reading.the-variants.{Is, NoStep}
 use Rattle.sheet.specs.Reading.{readingAt}
 
@@ -37,15 +37,20 @@ module _ (s : List ℕ) where
     too-many h = rw (size-kept, lt-ltb 64 (count s) h)
 
     module _ (few : count s ≤ 64) where
-      pub cut-short : length s < tableEnd s → headVerdict s ≡ Refused r.J3
+      pub chip-broken : J11 s ≡ true → headVerdict s ≡ Refused r.J11
       unfolding headVerdict first
-      cut-short h =
-          rw (size-kept, le-ltb 64 (count s) few, lt-ltb (length s) (tableEnd s) h)
+      chip-broken h = rw (size-kept, le-ltb 64 (count s) few, h)
 
-      pub head-allowed : tableEnd s ≤ length s → headVerdict s ≡ Accepted
-      unfolding headVerdict first
-      head-allowed h =
-          rw (size-kept, le-ltb 64 (count s) few, le-ltb (length s) (tableEnd s) h)
+      module _ (named : J11 s ≡ false) where
+        pub cut-short : length s < tableEnd s → headVerdict s ≡ Refused r.J3
+        unfolding headVerdict first
+        cut-short h =
+            rw (size-kept, le-ltb 64 (count s) few, named, lt-ltb (length s) (tableEnd s) h)
+
+        pub head-allowed : tableEnd s ≤ length s → headVerdict s ≡ Accepted
+        unfolding headVerdict first
+        head-allowed h =
+            rw (size-kept, le-ltb 64 (count s) few, named, le-ltb (length s) (tableEnd s) h)
 
 -- ---- an entry ----
 
@@ -67,49 +72,54 @@ module _ (chip : Chip) (s : List ℕ) (i : ℕ) where
     zero-broken h = rw (kind-kept, ne-eqb (zeroAt s i) 0 h)
 
     module _ (zero : zeroAt s i ≡ 0) where
-      pub pair-broken : invalid (rangeAt chip s i) ≡ true → entryVerdict chip s i ≡ Refused r.J6
+      pub pair-broken : J6 chip s i ≡ true → entryVerdict chip s i ≡ Refused r.J6
       unfolding entryVerdict first
       pair-broken h = rw (kind-kept, eq-eqb (zeroAt s i) 0 zero, h)
 
-      module _ (pair : invalid (rangeAt chip s i) ≡ false) where
-        pub offset-broken : (offsetAt s i ≡ offsetDue s i → ⊥) → entryVerdict chip s i ≡ Refused r.J7
+      module _ (pair : J6 chip s i ≡ false) where
+        pub lock-broken : J12 s i ≡ true → entryVerdict chip s i ≡ Refused r.J12
         unfolding entryVerdict first
-        offset-broken h =
-            rw (kind-kept, eq-eqb (zeroAt s i) 0 zero, pair, ne-eqb (offsetAt s i) (offsetDue s i) h)
+        lock-broken h = rw (kind-kept, eq-eqb (zeroAt s i) 0 zero, pair, h)
 
-        module _ (offset : offsetAt s i ≡ offsetDue s i) where
-          pub body-broken : length s < bodyEnd s i → entryVerdict chip s i ≡ Refused r.J8
+        module _ (lock : J12 s i ≡ false) where
+          pub offset-broken : (offsetAt s i ≡ offsetDue s i → ⊥) → entryVerdict chip s i ≡ Refused r.J7
           unfolding entryVerdict first
-          body-broken h =
-              rw (kind-kept, eq-eqb (zeroAt s i) 0 zero, pair, eq-eqb (offsetAt s i) (offsetDue s i) offset, lt-ltb (length s) (bodyEnd s i) h)
+          offset-broken h =
+              rw (kind-kept, eq-eqb (zeroAt s i) 0 zero, pair, lock, ne-eqb (offsetAt s i) (offsetDue s i) h)
 
-          pub entry-allowed : bodyEnd s i ≤ length s → entryVerdict chip s i ≡ Accepted
-          unfolding entryVerdict first
-          entry-allowed h =
-              rw (kind-kept, eq-eqb (zeroAt s i) 0 zero, pair, eq-eqb (offsetAt s i) (offsetDue s i) offset, le-ltb (length s) (bodyEnd s i) h)
+          module _ (offset : offsetAt s i ≡ offsetDue s i) where
+            pub body-broken : length s < bodyEnd s i → entryVerdict chip s i ≡ Refused r.J8
+            unfolding entryVerdict first
+            body-broken h =
+                rw (kind-kept, eq-eqb (zeroAt s i) 0 zero, pair, lock, eq-eqb (offsetAt s i) (offsetDue s i) offset, lt-ltb (length s) (bodyEnd s i) h)
+
+            pub entry-allowed : bodyEnd s i ≤ length s → entryVerdict chip s i ≡ Accepted
+            unfolding entryVerdict first
+            entry-allowed h =
+                rw (kind-kept, eq-eqb (zeroAt s i) 0 zero, pair, lock, eq-eqb (offsetAt s i) (offsetDue s i) offset, le-ltb (length s) (bodyEnd s i) h)
 
 -- ---- the whole sheet ----
 
-module _ (chip : Chip) (s : List ℕ) where
-  pub head-refused : (n : Refusal) → headVerdict s ≡ Refused n → sheetVerdict chip s ≡ Refused n
+module _ (s : List ℕ) where
+  pub head-refused : (n : Refusal) → headVerdict s ≡ Refused n → sheetVerdict s ≡ Refused n
   unfolding sheetVerdict
   head-refused n h = rw h
 
   module _ (head : headVerdict s ≡ Accepted) where
-    pub entries-refused : (n : Refusal) → entriesVerdict chip s 0 (count s) ≡ Refused n → sheetVerdict chip s ≡ Refused n
+    pub entries-refused : (n : Refusal) → entriesVerdict (against s) s 0 (count s) ≡ Refused n → sheetVerdict s ≡ Refused n
     unfolding sheetVerdict
     entries-refused n h = rw (head, h)
 
-    module _ (entries : entriesVerdict chip s 0 (count s) ≡ Accepted) where
-      pub bytes-left : J9 s ≡ true → sheetVerdict chip s ≡ Refused r.J9
+    module _ (entries : entriesVerdict (against s) s 0 (count s) ≡ Accepted) where
+      pub bytes-left : J9 s ≡ true → sheetVerdict s ≡ Refused r.J9
       unfolding sheetVerdict first
       bytes-left h = rw (head, entries, h)
 
-      pub sheet-allowed : J9 s ≡ false → sheetVerdict chip s ≡ Accepted
+      pub sheet-allowed : J9 s ≡ false → sheetVerdict s ≡ Accepted
       unfolding sheetVerdict first
       sheet-allowed h = rw (head, entries, h)
 
--- ---- the chip, and the room for its sums ----
+-- ---- the chip to be played to, and the room for its sums ----
 
 module _ (chip : Chip) (s : List ℕ) (room : ℕ) where
   pub no-chip : known chip ≡ false → verdict chip s room ≡ Refused r.D0
@@ -117,31 +127,36 @@ module _ (chip : Chip) (s : List ℕ) (room : ℕ) where
   no-chip h = rw h
 
   module _ (counts : known chip ≡ true) where
-    pub sheet-refused : (n : Refusal) → sheetVerdict chip s ≡ Refused n → verdict chip s room ≡ Refused n
+    pub sheet-refused : (n : Refusal) → sheetVerdict s ≡ Refused n → verdict chip s room ≡ Refused n
     unfolding verdict first
     sheet-refused n h = rw (counts, h)
 
-    module _ (sheet : sheetVerdict chip s ≡ Accepted) where
-      pub no-room : room < count s → verdict chip s room ≡ Refused r.J10
+    module _ (sheet : sheetVerdict s ≡ Accepted) where
+      pub for-another : J14 chip s ≡ true → verdict chip s room ≡ Refused r.J14
       unfolding verdict first
-      no-room h = rw (counts, sheet, lt-ltb room (count s) h)
+      for-another h = rw (counts, sheet, h)
 
-      pub room-allowed : count s ≤ room → verdict chip s room ≡ Accepted
-      unfolding verdict first
-      room-allowed h = rw (counts, sheet, le-ltb room (count s) h)
+      module _ (own : J14 chip s ≡ false) where
+        pub no-room : room < count s → verdict chip s room ≡ Refused r.J10
+        unfolding verdict first
+        no-room h = rw (counts, sheet, own, lt-ltb room (count s) h)
+
+        pub room-allowed : count s ≤ room → verdict chip s room ≡ Accepted
+        unfolding verdict first
+        room-allowed h = rw (counts, sheet, own, le-ltb room (count s) h)
 
 -- ---- a step, read from a sheet that was not judged ----
 
-module _ (chip : Chip) (s : List ℕ) (i : ℕ) where
-  pub no-sheet : (n : Refusal) → sheetVerdict chip s ≡ Refused n → readingAt chip s i ≡ NoStep
+module _ (s : List ℕ) (i : ℕ) where
+  pub no-sheet : (n : Refusal) → sheetVerdict s ≡ Refused n → readingAt s i ≡ NoStep
   unfolding readingAt
   no-sheet n h = rw h
 
-  module _ (judged : sheetVerdict chip s ≡ Accepted) where
-    pub no-step : count s ≤ i → readingAt chip s i ≡ NoStep
+  module _ (judged : sheetVerdict s ≡ Accepted) where
+    pub no-step : count s ≤ i → readingAt s i ≡ NoStep
     unfolding readingAt
     no-step h = rw (judged, le-ltb i (count s) h)
 
-    pub step-there : i < count s → readingAt chip s i ≡ Is (stepAt chip s i)
+    pub step-there : i < count s → readingAt s i ≡ Is (stepAt (against s) s i)
     unfolding readingAt
     step-there h = rw (judged, lt-ltb i (count s) h)

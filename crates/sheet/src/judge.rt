@@ -1,22 +1,29 @@
-// The rules: D0 and J1 to J10 in the order of the documents, each with its own return. No body is read.
+// The rules: D0, J1 to J12 and J14 in the order of the documents, each with its own return. No body is read.
 use crate::table::Entry;
+use crate::table::against;
 use crate::table::body_end;
 use crate::table::count;
-use crate::table::entry_at;
+use crate::table::entry_behind;
+use crate::table::flags_of;
+use crate::table::form_two;
 use crate::table::head_size;
 use crate::table::offset_due;
 use crate::table::table_end;
 use chip_finder::is_invalid;
 use chip_finder::is_known;
 use chip_finder::range;
+use octets::numbers::byte_at;
+use octets::numbers::high_byte;
 use rules::Chip;
+use rules::Flags;
 use rules::Refusal;
 use rules::Verdict;
 ghost use mathlib.Core.Path.{_≡_};
+ghost use mathlib.Core.Bool.{_&&_, not};
 ghost use Prim.Native.Nat.{ℕ};
 ghost use Rattle.rules.specs.Numbers.{verdictNumber};
-ghost use Rattle.rules.specs.Sheet.{mostBytes, lastKind, offsetDue, J9, headVerdict, entryVerdict, entriesVerdict, sheetVerdict, verdict};
-ghost use Rattle.sheet.specs.Entry.{entryIn};
+ghost use Rattle.rules.specs.Sheet.{count, mostBytes, lastKind, clears, isLast, offsetDue, J9, J11, J14, headVerdict, entryVerdict, entriesVerdict, sheetVerdict, verdict};
+ghost use Rattle.sheet.specs.Entry.{entryIn, pairWrong, lockWrong};
 
 // How many steps a sheet has at most, how many bytes, and the number of its last kind.
 const MOST_STEPS: usize = 64;
@@ -24,16 +31,39 @@ const MOST_STEPS: usize = 64;
 fn most_bytes(sheet: &[u8]) -> usize
     ensures { λ r. ⌜ r ≡ mostBytes (now (sheet .entry)) ⌝ }
 {
+    if form_two(sheet) {
+        return 65540;
+    }
     65536
 }
 
 fn last_kind(sheet: &[u8]) -> u8
     ensures { λ r. ⌜ r ≡ lastKind (now (sheet .entry)) ⌝ }
 {
+    if form_two(sheet) {
+        return 6;
+    }
     4
 }
 
-// J1 to J3: the length, the count, and the table.
+// J11: a form 2 sheet names chip 1 or 2, and a zero byte stands behind.
+fn no_chip_named(sheet: &[u8]) -> bool
+    ensures { λ r. ⌜ r ≡ J11 (now (sheet .entry)) ⌝ }
+{
+    if !form_two(sheet) {
+        return false;
+    }
+    let chip = byte_at(sheet, 2);
+    if byte_at(sheet, 3) != 0 {
+        return true;
+    }
+    if chip == 1 {
+        return false;
+    }
+    chip != 2
+}
+
+// J1, J2, J11 and J3: the length, the count, the chip, and the table.
 fn head_verdict(sheet: &[u8]) -> Verdict
     ensures { λ r. ⌜ r ≡ headVerdict (now (sheet .entry)) ⌝ }
 {
@@ -47,6 +77,9 @@ fn head_verdict(sheet: &[u8]) -> Verdict
     if MOST_STEPS < n {
         return Verdict::Refused(Refusal::J2);
     }
+    if no_chip_named(sheet) {
+        return Verdict::Refused(Refusal::J11);
+    }
     let table = table_end(sheet);
     if sheet.len() < table {
         return Verdict::Refused(Refusal::J3);
@@ -54,20 +87,68 @@ fn head_verdict(sheet: &[u8]) -> Verdict
     Verdict::Accepted
 }
 
-// J4 to J8 of an entry, given the offset that it must say: the rules in order.
-fn entry_verdict(chip: Chip, sheet: &[u8], e: Entry, due: usize) -> Verdict
-    ensures { λ r. ⌜ ((i : ℕ) → e ≡ entryIn (now (sheet .entry)) i → due ≡ offsetDue (now (sheet .entry)) i → r ≡ entryVerdict chip (now (sheet .entry)) i) ⌝ }
+// The kind that has flags where the others have addresses.
+const LOCK: u8 = 6;
+
+// Bit 2 of SF2 is IFPR.
+fn clears_ifpr(f: Flags) -> bool
+    ensures { λ r. ⌜ r ≡ clears f ⌝ }
+{
+    f.sf2 / 4 % 2 == 0
+}
+
+// A lock that clears IFPR and is not the last step.
+fn clears_early(f: Flags, last: bool) -> bool
+    ensures { λ r. ⌜ r ≡ clears f && not last ⌝ }
+{
+    if !clears_ifpr(f) {
+        return false;
+    }
+    !last
+}
+
+// J6: no valid pair; a lock has none.
+fn pair_wrong(chip: Chip, e: Entry) -> bool
+    ensures { λ r. ⌜ r ≡ pairWrong chip e ⌝ }
+{
+    if e.kind == LOCK {
+        return false;
+    }
+    is_invalid(range(chip, e.sad, e.ead))
+}
+
+// J12: a lock that clears IFPR and is not the last step, or whose filler is not zero.
+fn lock_wrong(e: Entry, last: bool) -> bool
+    ensures { λ r. ⌜ r ≡ lockWrong e last ⌝ }
+{
+    if e.kind != LOCK {
+        return false;
+    }
+    if clears_early(flags_of(e.sad), last) {
+        return true;
+    }
+    let sad = e.sad;
+    if high_byte(sad.0) != 0 {
+        return true;
+    }
+    let ead = e.ead;
+    ead.0 != 0
+}
+
+// J4 to J8 and J12 of an entry, given the last kind, the offset that it must say and whether it is the last entry: the rules in order.
+fn entry_verdict(chip: Chip, sheet: &[u8], e: Entry, most: u8, due: usize, last: bool) -> Verdict
+    ensures { λ r. ⌜ ((i : ℕ) → e ≡ entryIn (now (sheet .entry)) i → most ≡ lastKind (now (sheet .entry)) → due ≡ offsetDue (now (sheet .entry)) i → last ≡ isLast (now (sheet .entry)) i → r ≡ entryVerdict chip (now (sheet .entry)) i) ⌝ }
 {
     let kind = e.kind;
     let zero = e.zero;
-    let last = last_kind(sheet);
-    let no_pair = is_invalid(range(chip, e.sad, e.ead));
+    let no_pair = pair_wrong(chip, e);
+    let no_lock = lock_wrong(e, last);
     let offset = e.offset as usize;
     let end = body_end(e);
     if kind < 1 {
         return Verdict::Refused(Refusal::J4);
     }
-    if last < kind {
+    if most < kind {
         return Verdict::Refused(Refusal::J4);
     }
     if zero != 0 {
@@ -75,6 +156,9 @@ fn entry_verdict(chip: Chip, sheet: &[u8], e: Entry, due: usize) -> Verdict
     }
     if no_pair {
         return Verdict::Refused(Refusal::J6);
+    }
+    if no_lock {
+        return Verdict::Refused(Refusal::J12);
     }
     if offset != due {
         return Verdict::Refused(Refusal::J7);
@@ -85,16 +169,19 @@ fn entry_verdict(chip: Chip, sheet: &[u8], e: Entry, due: usize) -> Verdict
     Verdict::Accepted
 }
 
-// The first n entries, one after another.
-fn entries_verdict(chip: Chip, sheet: &[u8], n: usize) -> Verdict
-    ensures { λ r. ⌜ r ≡ entriesVerdict chip (now (sheet .entry)) 0 n ⌝ }
+// The entries, one after another.
+fn entries_verdict(chip: Chip, sheet: &[u8]) -> Verdict
+    ensures { λ r. ⌜ r ≡ entriesVerdict chip (now (sheet .entry)) 0 (count (now (sheet .entry))) ⌝ }
 {
+    let n = count(sheet);
+    let head = head_size(sheet);
+    let most = last_kind(sheet);
     let mut i = 0;
     // the offset that entry i must say: the end of the table, then that of the body before
     let mut due = table_end(sheet);
     while i < n {
-        let e = entry_at(sheet, i);
-        if let Verdict::Refused(refusal) = entry_verdict(chip, sheet, e, due) {
+        let e = entry_behind(sheet, head, i);
+        if let Verdict::Refused(refusal) = entry_verdict(chip, sheet, e, most, due, i + 1 == n) {
             return Verdict::Refused(refusal);
         }
         due = body_end(e);
@@ -111,14 +198,14 @@ fn left_over(sheet: &[u8]) -> bool
     sheet.len() != end
 }
 
-// The sheet's own rules, J1 to J9.
-pub fn sheet_verdict(chip: Chip, sheet: &[u8]) -> Verdict
-    ensures { λ r. ⌜ r ≡ sheetVerdict chip (now (sheet .entry)) ⌝ }
+// The sheet's own rules, J1 to J9, J11 and J12, judged against the chip that it names.
+pub fn sheet_verdict(sheet: &[u8]) -> Verdict
+    ensures { λ r. ⌜ r ≡ sheetVerdict (now (sheet .entry)) ⌝ }
 {
     if let Verdict::Refused(refusal) = head_verdict(sheet) {
         return Verdict::Refused(refusal);
     }
-    if let Verdict::Refused(refusal) = entries_verdict(chip, sheet, count(sheet)) {
+    if let Verdict::Refused(refusal) = entries_verdict(against(sheet), sheet) {
         return Verdict::Refused(refusal);
     }
     if left_over(sheet) {
@@ -127,7 +214,18 @@ pub fn sheet_verdict(chip: Chip, sheet: &[u8]) -> Verdict
     Verdict::Accepted
 }
 
-// The verdict on a sheet, with room for so many sums: D0, its own rules, then J10.
+// J14: the chip to be played to is another than the sheet's.
+fn other_chip(chip: Chip, sheet: &[u8]) -> bool
+    ensures { λ r. ⌜ r ≡ J14 chip (now (sheet .entry)) ⌝ }
+{
+    let own = against(sheet);
+    if chip.code != own.code {
+        return true;
+    }
+    chip.data != own.data
+}
+
+// The verdict on a sheet for a chip, with room for so many sums: D0, its own rules, J14, then J10.
 pub fn verdict(chip: Chip, sheet: &[u8], room: usize) -> Verdict
     ensures { λ r. ⌜ r ≡ verdict chip (now (sheet .entry)) room ⌝ }
     ensures { λ r. ⌜ verdictNumber r ≡ verdictNumber (verdict chip (now (sheet .entry)) room) ⌝ }
@@ -135,8 +233,11 @@ pub fn verdict(chip: Chip, sheet: &[u8], room: usize) -> Verdict
     if !is_known(chip) {
         return Verdict::Refused(Refusal::D0);
     }
-    if let Verdict::Refused(refusal) = sheet_verdict(chip, sheet) {
+    if let Verdict::Refused(refusal) = sheet_verdict(sheet) {
         return Verdict::Refused(refusal);
+    }
+    if other_chip(chip, sheet) {
+        return Verdict::Refused(Refusal::J14);
     }
     if room < count(sheet) {
         return Verdict::Refused(Refusal::J10);

@@ -1,7 +1,9 @@
 // The steps of a sheet, for any bytes and any number of a step, and what a step has.
 use crate::table::entry_at;
+use crate::table::flags_of;
 use rules::Block;
 use rules::Chip;
+use rules::Flags;
 use rules::Flash;
 use rules::Kind;
 use rules::Range;
@@ -23,11 +25,17 @@ fn kind_of(k: u8) -> Kind
     if k == 3 {
         return Kind::Verify;
     }
+    if k == 5 {
+        return Kind::Blank;
+    }
+    if k == 6 {
+        return Kind::Lock;
+    }
     Kind::Sum
 }
 
-fn step_of(kind: Kind, range: Range, body: usize) -> Step
-    ensures { λ r. ⌜ r ≡ stepOf kind range body ⌝ }
+fn step_of(kind: Kind, range: Range, flags: Flags, body: usize) -> Step
+    ensures { λ r. ⌜ r ≡ stepOf kind range flags body ⌝ }
 {
     match range {
         Range::Blocks(flash, first, last) => Step {
@@ -35,6 +43,7 @@ fn step_of(kind: Kind, range: Range, body: usize) -> Step
             flash,
             first,
             last,
+            flags,
             body,
         },
         Range::Invalid => Step {
@@ -42,6 +51,7 @@ fn step_of(kind: Kind, range: Range, body: usize) -> Step
             flash: Flash::Code,
             first: Block(0),
             last: Block(0),
+            flags,
             body,
         },
     }
@@ -53,7 +63,7 @@ pub fn step_at(chip: Chip, sheet: &[u8], i: usize) -> Step
 {
     let e = entry_at(sheet, i);
     let range = chip_finder::range(chip, e.sad, e.ead);
-    step_of(kind_of(e.kind), range, e.offset as usize)
+    step_of(kind_of(e.kind), range, flags_of(e.sad), e.offset as usize)
 }
 
 // How many blocks, and how many pages, a step has.
@@ -88,5 +98,7 @@ pub fn most_frames(t: Step) -> usize
         Kind::Write => 1 + pages,
         Kind::Verify => 1 + pages,
         Kind::Sum => 1,
+        Kind::Blank => 1,
+        Kind::Lock => 1,
     }
 }

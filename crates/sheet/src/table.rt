@@ -1,14 +1,20 @@
 // The head and the entries of a sheet, for any bytes and any number of an entry.
+use chip_finder::large;
+use chip_finder::small;
 use octets::numbers::address_at;
 use octets::numbers::address_of;
 use octets::numbers::byte_at;
+use octets::numbers::low_byte;
+use octets::numbers::middle_byte;
 use octets::numbers::word_at;
 use octets::numbers::word_of;
 use rules::Address;
+use rules::Chip;
+use rules::Flags;
 ghost use mathlib.Core.Path.{_≡_};
 ghost use Prim.Native.Nat.{_+_, _*_, _<_, _≤_};
 ghost use lib.ListN.{length, drop};
-ghost use Rattle.rules.specs.Sheet.{headSize, count, tableEnd, entryAt, offsetDue};
+ghost use Rattle.rules.specs.Sheet.{formTwo, against, headSize, count, entrySize, tableEnd, flagsOf, offsetDue};
 ghost use Rattle.sheet.specs.Entry.{lengthOf, endOf, entryIn, fieldsOf};
 
 // The bytes of an entry.
@@ -16,10 +22,36 @@ const ENTRY_SIZE: usize = 12;
 
 // ---- the head ----
 
+// FEh 02h begins form 2.
+pub fn form_two(sheet: &[u8]) -> bool
+    ensures { λ r. ⌜ r ≡ formTwo (now (sheet .entry)) ⌝ }
+{
+    if byte_at(sheet, 0) == 0xFE {
+        return byte_at(sheet, 1) == 0x02;
+    }
+    false
+}
+
+// The chip that the sheet names, which it is judged against.
+pub fn against(sheet: &[u8]) -> Chip
+    ensures { λ r. ⌜ r ≡ against (now (sheet .entry)) ⌝ }
+{
+    if !form_two(sheet) {
+        return small();
+    }
+    if byte_at(sheet, 2) == 2 {
+        return large();
+    }
+    small()
+}
+
 // How many bytes stand before the entries. Whatever asks for a place asks here.
 pub fn head_size(sheet: &[u8]) -> usize
-    ensures { λ r. ⌜ (r ≡ headSize (now (sheet .entry))) × (r ≤ 12) ⌝ }
+    ensures { λ r. ⌜ (r ≡ headSize (now (sheet .entry))) × (2 ≤ r) × (r ≤ 12) ⌝ }
 {
+    if form_two(sheet) {
+        return 6;
+    }
     2
 }
 
@@ -27,7 +59,8 @@ pub fn head_size(sheet: &[u8]) -> usize
 pub fn count(sheet: &[u8]) -> usize
     ensures { λ r. ⌜ (r ≡ count (now (sheet .entry))) × (r < 65536) ⌝ }
 {
-    word_at(sheet, 0) as usize
+    let head = head_size(sheet);
+    word_at(sheet, head - 2) as usize
 }
 
 // Where the table ends and the bodies begin.
@@ -48,11 +81,11 @@ pub struct Entry {
     pub offset: u32,
 }
 
-// The sheet from entry i on, empty where it ends before that. Entries are counted before they are multiplied: i can be any number.
-fn from_entry<'a>(sheet: &'a [u8], i: usize) -> &'a [u8]
-    ensures { λ r. ⌜ now r ≡ drop (entryAt (now (sheet .entry)) i) (now (sheet .entry)) ⌝ }
+// The sheet from entry i on, behind a head of that size; empty where it ends before that. Entries are counted before they are multiplied: i can be
+// any number.
+fn from_entry<'a>(sheet: &'a [u8], head: usize, i: usize) -> &'a [u8]
+    ensures { λ r. ⌜ now r ≡ drop (head + entrySize * i) (now (sheet .entry)) ⌝ }
 {
-    let head = head_size(sheet);
     if sheet.len() < head {
         return &sheet[0..0];
     }
@@ -98,14 +131,31 @@ fn whole_entry(e: &[u8]) -> Entry
     }
 }
 
-pub fn entry_at(sheet: &[u8], i: usize) -> Entry
-    ensures { λ r. ⌜ r ≡ entryIn (now (sheet .entry)) i ⌝ }
+// Entry i behind a head of that size, for a caller that has asked for the head once.
+pub fn entry_behind(sheet: &[u8], head: usize, i: usize) -> Entry
+    ensures { λ r. ⌜ r ≡ fieldsOf (drop (head + entrySize * i) (now (sheet .entry))) ⌝ }
 {
-    let e = from_entry(sheet, i);
+    let e = from_entry(sheet, head, i);
     if e.len() < ENTRY_SIZE {
         return cut_entry(e);
     }
     whole_entry(e)
+}
+
+pub fn entry_at(sheet: &[u8], i: usize) -> Entry
+    ensures { λ r. ⌜ r ≡ entryIn (now (sheet .entry)) i ⌝ }
+{
+    entry_behind(sheet, head_size(sheet), i)
+}
+
+// The flags of a lock, which stand where the other kinds have their first address.
+pub fn flags_of(sad: Address) -> Flags
+    ensures { λ r. ⌜ r ≡ flagsOf sad ⌝ }
+{
+    Flags {
+        sf1: low_byte(sad.0),
+        sf2: middle_byte(sad.0),
+    }
 }
 
 // ---- bodies ----

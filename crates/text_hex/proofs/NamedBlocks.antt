@@ -7,7 +7,7 @@ use native.Mathlib.Nat.{zero-mul, suc-mul}
 use native.Mathlib.Omega.{arith}
 use native.Mathlib.Numerals.{add-one}
 use lib.ListN.{length, getD, take, drop, length-append, drop-of-length-le}
-use lib.Seq.{drop-cons, sets-eq}
+use lib.Seq.{drop-cons}
 use borrow.Author.Tests.{lt-ltb, le-ltb}
 use Rattle.rules.specs.declared.Flash.{Flash}
 use Rattle.rules.specs.declared.Flash.the-variants.{Code, Data}
@@ -22,7 +22,7 @@ use Rattle.rules.specs.Hex.{noCells, anyGiven, reading, hexRead, Named, named, 
 use Rattle.chip_finder.specs.LentFlashes.{memory}
 use Rattle.chip_finder.proofs.Parts.{inside, length-part}
 use Rattle.text_out.specs.Out.{Out, out, add}
-use Rattle.text_out.proofs.Appended.{add-append, add-none, stores}
+use Rattle.text_out.proofs.Appended.{add-append, add-none}
 
 module _ (m : Memory) (f : Flash) (i : ℕ) where
   pub one-named : anyGiven (blockCells m f i) ≡ true → namedFrom m f i 1 ≡ named f i ∷ []
@@ -179,13 +179,6 @@ module _ (m : Memory) (room : ℕ) (s buf : List ℕ) where
       pub with-room : length (sheetOf m) ≤ room → makingOf (sheetMade m room) s buf ≡ record { made = Sheet (length (sheetOf m)); out = over s buf }
       unfolding makingOf
       with-room h = rw (is-made h)
-
--- a sheet put into a buffer that has room for it
-pub put-over : (s b x : List ℕ) (r : ℕ) → out r x ≡ add s (out 0 b) → length s ≤ length b → x ≡ over s b
-unfolding over
-put-over s b x r e h =
-    let z : 0 + length s ≡ length s = omega arith in
-    ap (λ (o : Out). o .bytes) (e ∙ stores s 0 b (omega arith)) ∙ sets-eq s b 0 (omega arith) ∙ ap (λ (k : ℕ). s ++ drop k b) z
 
 -- ---- the call, by what the text was read to ----
 

@@ -9,6 +9,7 @@ use lib.Dec.{ltb}
 use lib.ListN.{length, set, take, drop, getD, length-set}
 use lib.Seq.{drop-cons, sets, sets-eq, take-at, length-take-le}
 use borrow.Author.Tests.{lt-ltb, le-ltb, ltb-true}
+use Rattle.rules.specs.Chip.{over}
 use Rattle.text_out.specs.Out.{Out, out, addByte, add, Filled}
 
 -- ---- a byte: room for it, or not ----
@@ -71,6 +72,13 @@ module _ (t : List ℕ) (n : ℕ) (b c : List ℕ) (e : out n c ≡ add t (out 0
       let m : n ≡ length t = ap (λ (o : Out). o .at) f ∙ omega arith in
       let d : c ≡ t ++ drop (0 + length t) b = ap (λ (o : Out). o .bytes) f ∙ sets-eq t b 0 (omega arith) in
       rw (d, m) (take-at t (drop (0 + length t) b) (length t) refl)
+
+  -- and behind it the buffer is as it was
+  pub put-over : length t ≤ length b → c ≡ over t b
+  unfolding over
+  put-over h =
+      let z : 0 + length t ≡ length t = omega arith in
+      ap (λ (o : Out). o .bytes) (e ∙ stores t 0 b (omega arith)) ∙ sets-eq t b 0 (omega arith) ∙ ap (λ (k : ℕ). t ++ drop k b) z
 
   pub filled : Filled t b n c
   filled =

@@ -64,7 +64,7 @@ module _ (s : List ℕ) where
       refused = rw e
   by-verdict Accepted e =
       let o = played small s waiting in
-      let c = comes small s (replicate 260 0) (replicate 16 0) none none e (omega arith) (omega arith) waiting fresh-fit (rest-waits small freshOptions (freshMemory small)) (o .answer) (o .reached) (o .each) refl in
+      let c = comes small s (replicate 260 0) (replicate 16 0) none none e (omega arith) (omega arith) waiting fresh-fit (rest-waits small freshOptions (freshMemory small) refl) (o .answer) (o .reached) (o .each) refl in
       rw (c .played, ap (λ (x : Ended). x .report) (c .end), ap (λ (x : Ended). x .sums) (c .end), c .frames)
 
   -- its length

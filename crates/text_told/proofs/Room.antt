@@ -8,10 +8,10 @@ use lib.Dec.{ltb, eqb}
 use lib.ListN.{length, getD, length-append}
 use Rattle.rules.specs.declared.Chip.{Chip}
 use Rattle.rules.specs.declared.Refusal.{Refusal}
-use Rattle.rules.specs.declared.Refusal.the-variants.{D0, D1, D2, D3, E1, J1, J2, J3, J4, J5, J6, J7, J8, J9, J10, P1, P2}
+use Rattle.rules.specs.declared.Refusal.the-variants.{D0, D1, D2, D3, E1, J1, J2, J3, J4, J5, J6, J7, J8, J9, J10, J11, J12, J14, J15, J16, P1, P2}
 use Rattle.rules.specs.declared.Verdict.the-variants.{Accepted}
 use Rattle.rules.specs.declared.Kind.{Kind}
-use Rattle.rules.specs.declared.Kind.the-variants.{Erase, Write, Verify, Sum}
+use Rattle.rules.specs.declared.Kind.the-variants.{Erase, Write, Verify, Sum, Blank, Lock}
 use Rattle.rules.specs.declared.Status.{Status}
 use Rattle.rules.specs.declared.Status.the-variants.{Byte, L1}
 use Rattle.rules.specs.declared.Report.{Report}
@@ -49,6 +49,8 @@ kind-length Erase = omega arith
 kind-length Write = omega arith
 kind-length Verify = omega arith
 kind-length Sum = omega arith
+kind-length Blank = omega arith
+kind-length Lock = omega arith
 
 -- ---- lines ----
 
@@ -122,5 +124,10 @@ refused-fits J7 = omega arith
 refused-fits J8 = omega arith
 refused-fits J9 = omega arith
 refused-fits J10 = omega arith
+refused-fits J11 = omega arith
+refused-fits J12 = omega arith
+refused-fits J14 = omega arith
+refused-fits J15 = omega arith
+refused-fits J16 = omega arith
 refused-fits P1 = omega arith
 refused-fits P2 = omega arith

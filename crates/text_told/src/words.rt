@@ -26,6 +26,8 @@ pub fn put_kind(buf: &mut [u8], at: usize, kind: Kind) -> usize
         Kind::Write => put_bytes(buf, at, b"write"),
         Kind::Verify => put_bytes(buf, at, b"verify"),
         Kind::Sum => put_bytes(buf, at, b"sum"),
+        Kind::Blank => put_bytes(buf, at, b"blank"),
+        Kind::Lock => put_bytes(buf, at, b"lock"),
     }
 }
 

@@ -6,18 +6,12 @@ use super::material::{bad_pair, fresh_line, random_area, random_options, random_
 use super::random::Random;
 use crate::answers::Answers;
 use crate::chip::{Model, PAGE, Span};
-use crate::frames::{self, address_bytes, code};
+use crate::frames::{self, blank_check, code};
 use crate::lines::flash_line;
 use crate::options::{self, Options};
 
 pub fn write(tape: &mut Tape<Answers>, random: &mut Random) {
     Blanks { tape, random }.write();
-}
-
-/// A Blank Check with the target area TAR.
-pub fn blank_check(sad: u32, ead: u32, tar: u8) -> Vec<u8> {
-    let information = [&address_bytes(sad)[..], &address_bytes(ead), &[tar]].concat();
-    frames::command(code::BLANK_CHECK, &information)
 }
 
 /// TAR, mostly one of the two that are allowed.

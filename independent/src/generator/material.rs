@@ -7,7 +7,7 @@ use crate::frames::address_bytes;
 use crate::lines::{byte_line, flash_line};
 use crate::meaning::meaning;
 use crate::options::{self, Options};
-use crate::sheet::{COUNT_LENGTH, ENTRY_LENGTH, Kind, MOST_BYTES, MOST_STEPS, Sheet, Step};
+use crate::sheet::{ENTRY_LENGTH, FORM_2_MARK, Form, Kind, Lock, MOST_STEPS, Sheet, Step};
 use crate::status;
 
 /// One of the two chips.
@@ -258,18 +258,44 @@ pub fn change_byte(random: &mut Random, bytes: &mut [u8]) {
     bytes[at] = random.other_byte(bytes[at]);
 }
 
+/// Flags for a lock that leaves the chip open.
+pub fn random_lock(random: &mut Random) -> Lock {
+    let Options { mut sf1, mut sf2, .. } = match random.below(3) {
+        0 => Options::FRESH,
+        _ => random_options(random),
+    };
+    match random.below(8) {
+        0 => sf1 &= !options::BTPR,
+        1 => sf1 &= !options::WRPR,
+        2 => sf2 &= !options::IDEN,
+        _ => {}
+    }
+    Lock { sf1, sf2: sf2 | options::IFPR }
+}
+
+/// Flags for a lock that clears IFPR.
+pub fn shutting_lock(random: &mut Random) -> Lock {
+    let Lock { sf1, sf2 } = random_lock(random);
+    Lock { sf1, sf2: sf2 & !options::IFPR }
+}
+
 /// A sheet before it is written down.
 #[derive(Clone)]
 pub struct Plan {
+    pub form: Form,
     pub model: Model,
     pub steps: Vec<PlannedStep>,
 }
 
+/// A step with all that a step of any kind can have.
 #[derive(Clone)]
 pub struct PlannedStep {
     pub kind: Kind,
     pub span: Span,
+    /// Empty for a kind without a body.
     pub body: Vec<u8>,
+    /// Read of a lock alone.
+    pub lock: Lock,
 }
 
 /// How large a plan may become.
@@ -286,8 +312,13 @@ impl Plan {
     /// A plan made for a chip: mostly its steps do well, and verify bodies
     /// match, up to some step.
     pub fn random(random: &mut Random, flash: &Flash, options: &Options, size: Size) -> Plan {
-        let mut flash = flash.clone();
-        let mut plan = Plan { model: flash.model(), steps: Vec::new() };
+        let model = flash.model();
+        let form = match model {
+            Model::SMALL if random.chance(50) => Form::One,
+            _ => Form::Two,
+        };
+        let (mut flash, mut options) = (flash.clone(), *options);
+        let mut plan = Plan { form, model, steps: Vec::new() };
         let mut body_bytes = 0;
         let wanted = if random.chance(4) { 0 } else { random.between(1, size.steps) };
         let tolerance = random.pick(&[5, 50, 100, 100]);
@@ -299,22 +330,36 @@ impl Plan {
             if body_bytes + step.body.len() > size.body_bytes {
                 continue;
             }
-            let mut flash_after = flash.clone();
-            let sheet = Sheet { steps: vec![step.as_step()] };
-            let outcome = meaning(&sheet, &mut flash_after, options);
+            let (mut flash_after, mut options_after) = (flash.clone(), options);
+            let sheet = Sheet { form, model, steps: vec![step.as_step()] };
+            let outcome = meaning(&sheet, &mut flash_after, &mut options_after);
             if outcome.status != status::ACK && !random.chance(tolerance) {
                 continue;
             }
-            flash = flash_after;
+            (flash, options) = (flash_after, options_after);
             body_bytes += step.body.len();
             plan.steps.push(step);
+        }
+        if form == Form::Two && random.chance(15) {
+            plan.shut(random);
         }
         plan
     }
 
+    /// Makes the last step a lock that clears IFPR.
+    fn shut(&mut self, random: &mut Random) {
+        if let Some(last) = self.steps.last_mut() {
+            let lock = shutting_lock(random);
+            *last = PlannedStep { kind: Kind::Lock, span: last.span, body: Vec::new(), lock };
+        }
+    }
+
     fn random_step(&self, random: &mut Random, flash: &Flash, size: Size) -> PlannedStep {
-        use Kind::{Erase, Sum, Verify, Write};
-        let kind = random.pick(&[Erase, Erase, Write, Write, Write, Verify, Verify, Sum, Sum]);
+        use Kind::{Blank, Erase, Lock, Sum, Verify, Write};
+        let kind = match self.form {
+            Form::Two if random.chance(25) => random.pick(&[Blank, Lock]),
+            _ => random.pick(&[Erase, Erase, Write, Write, Write, Verify, Verify, Sum, Sum]),
+        };
         let span = match self.steps.last() {
             Some(before) if random.chance(50) => before.span,
             _ => {
@@ -330,20 +375,24 @@ impl Plan {
     }
 
     pub fn bytes(&self) -> Vec<u8> {
-        Sheet { steps: self.steps.iter().map(PlannedStep::as_step).collect() }.bytes()
+        let steps = self.steps.iter().map(PlannedStep::as_step).collect();
+        Sheet { form: self.form, model: self.model, steps }.bytes()
     }
 
     /// The plan's bytes with one or more faults in them.
     pub fn faulty_bytes(&self, random: &mut Random) -> Vec<u8> {
         let mut faults: Vec<Fault> = Vec::new();
         for _ in 0..random.pick(&[1, 1, 2, 2, 3]) {
-            faults.push(random.pick(&Fault::CHOICES));
+            faults.push(match self.form {
+                Form::Two if random.chance(30) => random.pick(&Fault::OF_FORM_2),
+                _ => random.pick(&Fault::CHOICES),
+            });
         }
         // Faults of length come last, so that the others find their bytes.
         faults.sort();
         let mut bytes = self.bytes();
         for fault in faults {
-            fault.put_in(random, &mut bytes, self.steps.len(), self.model);
+            fault.put_in(random, &mut bytes, self);
         }
         bytes
     }
@@ -352,7 +401,6 @@ impl Plan {
 impl PlannedStep {
     pub fn random(random: &mut Random, kind: Kind, span: Span, flash: &Flash) -> PlannedStep {
         let body = match kind {
-            Kind::Erase | Kind::Sum => Vec::new(),
             Kind::Write => random_body(random, span.length),
             Kind::Verify if random.chance(15) => random_body(random, span.length),
             Kind::Verify => {
@@ -362,12 +410,20 @@ impl PlannedStep {
                 }
                 body
             }
+            _ => Vec::new(),
         };
-        PlannedStep { kind, span, body }
+        PlannedStep { kind, span, body, lock: random_lock(random) }
     }
 
     fn as_step(&self) -> Step<'_> {
-        Step { kind: self.kind, span: self.span, body: &self.body }
+        match self.kind {
+            Kind::Erase => Step::Erase(self.span),
+            Kind::Write => Step::Write(self.span, &self.body),
+            Kind::Verify => Step::Verify(self.span, &self.body),
+            Kind::Sum => Step::Sum(self.span),
+            Kind::Blank => Step::Blank(self.span),
+            Kind::Lock => Step::Lock(self.lock),
+        }
     }
 }
 
@@ -378,7 +434,11 @@ enum Fault {
     J5,
     J6,
     J7,
+    J12,
+    J11,
     J2,
+    /// A mark of form 2 that is none: J2 too.
+    Mark,
     J9,
     J8,
     J3,
@@ -386,7 +446,8 @@ enum Fault {
 }
 
 impl Fault {
-    /// All faults; those that others hide easily come more than once.
+    /// The faults of both forms; those that others hide easily come more than
+    /// once.
     const CHOICES: [Fault; 18] = [
         Fault::J4,
         Fault::J4,
@@ -408,18 +469,29 @@ impl Fault {
         Fault::J1,
     ];
 
-    /// Changes a sheet of `count` entries. At least one byte stays.
-    fn put_in(self, random: &mut Random, bytes: &mut Vec<u8>, count: usize, model: Model) {
-        let table_end = COUNT_LENGTH + ENTRY_LENGTH * count;
-        if count == 0 && matches!(self, Fault::J4 | Fault::J5 | Fault::J6 | Fault::J7) {
+    const OF_FORM_2: [Fault; 6] =
+        [Fault::J11, Fault::J11, Fault::J12, Fault::J12, Fault::J12, Fault::Mark];
+
+    /// Changes the bytes of a plan. At least one byte stays.
+    fn put_in(self, random: &mut Random, bytes: &mut Vec<u8>, plan: &Plan) {
+        let count = plan.steps.len();
+        let head = plan.form.head_length();
+        let table_end = plan.form.table_end(count);
+        let of_entries = [Fault::J4, Fault::J5, Fault::J6, Fault::J7, Fault::J12];
+        if count == 0 && of_entries.contains(&self) {
             return;
         }
-        let entry = COUNT_LENGTH + ENTRY_LENGTH * random.below(count.max(1));
+        let entry = head + ENTRY_LENGTH * random.below(count.max(1));
         match self {
-            Fault::J4 => bytes[entry] = random.pick(&[0, 5, 6, 0x81, 0xFF]),
+            Fault::J4 => {
+                bytes[entry] = match plan.form {
+                    Form::One => random.pick(&[0, 5, 6, 0x81, 0xFF]),
+                    Form::Two => random.pick(&[0, 7, 8, 0x81, 0xFF]),
+                };
+            }
             Fault::J5 => bytes[entry + 7] = random.pick(&[1, 0x80, 0xFF]),
             Fault::J6 => {
-                let (sad, ead) = bad_pair(random, model);
+                let (sad, ead) = bad_pair(random, plan.model);
                 bytes[entry + 1..entry + 4].copy_from_slice(&address_bytes(sad));
                 bytes[entry + 4..entry + 7].copy_from_slice(&address_bytes(ead));
             }
@@ -431,9 +503,18 @@ impl Fault {
                     _ => random.other_byte(bytes[at]),
                 };
             }
+            Fault::J12 => put_lock_fault(random, &mut bytes[entry..entry + ENTRY_LENGTH]),
+            Fault::J11 => match random.below(4) {
+                0 => bytes[3] = random.pick(&[1, 0x80, 0xFF]),
+                _ => bytes[2] = random.pick(&[0, 3, 4, 0x81, 0xFF]),
+            },
             Fault::J2 => {
                 let wrong = random.pick(&[65, 66, 256, 0x4000, 0xFFFF]);
-                bytes[..COUNT_LENGTH].copy_from_slice(&u16::to_le_bytes(wrong));
+                bytes[head - 2..head].copy_from_slice(&u16::to_le_bytes(wrong));
+            }
+            Fault::Mark => {
+                let at = random.below(2);
+                bytes[at] = random.other_byte(bytes[at]);
             }
             Fault::J9 => {
                 let more = random.between(1, 3);
@@ -446,13 +527,25 @@ impl Fault {
             }
             Fault::J8 => {}
             Fault::J3 if count > 0 => {
-                let table = table_end - COUNT_LENGTH;
+                let table = table_end - head;
                 let kept = if random.chance(50) { table - 1 } else { random.below(table) };
-                bytes.truncate(COUNT_LENGTH + kept);
+                bytes.truncate(head + kept);
             }
-            Fault::J3 => bytes[0] = random.between(1, MOST_STEPS) as u8,
-            Fault::J1 => bytes.truncate(1),
+            Fault::J3 => bytes[head - 2] = random.between(1, MOST_STEPS) as u8,
+            Fault::J1 => bytes.truncate(random.between(1, head - 1)),
         }
+    }
+}
+
+/// Makes an entry a lock with wrong filler, or one that clears IFPR, which is
+/// well only in the last place.
+fn put_lock_fault(random: &mut Random, entry: &mut [u8]) {
+    let Lock { sf1, sf2 } = random_lock(random);
+    entry[..7].copy_from_slice(&[Kind::Lock.number(), sf1, sf2, 0, 0, 0, 0]);
+    if random.chance(50) {
+        entry[2] &= !options::IFPR;
+    } else {
+        entry[random.between(3, 6)] = random.pick(&[1, 0x80, 0xFF]);
     }
 }
 
@@ -463,9 +556,15 @@ pub fn sheet_lines(random: &mut Random, bytes: &[u8]) -> String {
     bytes.chunks(most).map(|chunk| byte_line("sheet", chunk)).collect()
 }
 
-/// A sheet at the limit of length, or one byte past it.
+/// A sheet at the limit of length, or some bytes past it.
 pub fn huge_sheet(random: &mut Random) -> Vec<u8> {
-    let mut bytes = vec![0; MOST_BYTES + random.below(2)];
-    bytes[0] = random.pick(&[0, 65]);
+    let form = random.pick(&[Form::One, Form::Two]);
+    let length = form.most_bytes() + random.pick(&[0, 1]) - random.pick(&[0, 0, 4]);
+    let mut bytes = vec![0; length];
+    if form == Form::Two {
+        bytes[..FORM_2_MARK.len()].copy_from_slice(&FORM_2_MARK);
+        bytes[2] = random.pick(&[0, 1, 1, 2]);
+    }
+    bytes[form.head_length() - 2] = random.pick(&[0, 65]);
     bytes
 }

@@ -3,7 +3,7 @@
 use super::Tape;
 use super::material::{
     Plan, PlannedStep, Size, chip_line, other_model, random_area, random_model, random_span,
-    sheet_lines,
+    sheet_lines, shutting_lock,
 };
 use super::random::Random;
 use crate::calls::Calls;
@@ -12,7 +12,7 @@ use crate::frames;
 use crate::lines::byte_line;
 use crate::options::Options;
 use crate::player::Awaited;
-use crate::sheet::Kind;
+use crate::sheet::{Form, Kind, Sheet, Step};
 use crate::status;
 
 pub fn generate(seed: u64, count: u64) -> String {
@@ -196,27 +196,47 @@ impl Play<'_> {
     fn changed_plan(&mut self) -> Plan {
         let mut plan = self.plan.clone();
         let step = self.tape.runner.player().map_or(0, |player| player.steps_finished());
-        match self.random.below(8) {
+        match self.random.below(12) {
             0 => plan.steps.truncate(self.random.between(step.saturating_sub(1), step + 1)),
             1 => plan = random_plan(&mut self.random, self.plan.model),
             2 => plan.steps.push(self.random_step(None)),
             // Another kind over the same blocks. Write and verify await the
-            // same, but are not the same step.
-            3 | 4 => {
+            // same, and so do others, but they are not the same step.
+            3..6 => {
                 if let Some(step) = plan.steps.get_mut(step) {
-                    step.kind = match step.kind {
-                        Kind::Write => Kind::Verify,
-                        Kind::Verify => Kind::Write,
-                        Kind::Erase => Kind::Sum,
-                        Kind::Sum => Kind::Erase,
-                    };
+                    step.kind = self.other_kind(plan.form, step.kind);
                 }
             }
             // The same kind over other blocks: fewer, or more.
-            5 | 6 => {
+            6 | 7 => {
                 if let Some(now) = plan.steps.get(step) {
                     let kind = now.kind;
                     plan.steps[step] = self.random_step(Some(kind));
+                }
+            }
+            // The same steps in the other form; kinds 5 and 6 are none of
+            // form 1's, and form 1 has one chip.
+            8 => {
+                plan.form = if plan.form == Form::One { Form::Two } else { Form::One };
+                plan.model = if plan.form == Form::One { Model::SMALL } else { plan.model };
+            }
+            // The same steps for the other chip, which takes its place.
+            9 => {
+                plan.model = match plan.model {
+                    Model::SMALL => Model::LARGE,
+                    _ => Model::SMALL,
+                };
+                plan.form = Form::Two;
+                self.take_chip(plan.model);
+            }
+            // The last step shuts the chip.
+            10 => {
+                if plan.form == Form::Two
+                    && let Some(last) = plan.steps.last_mut()
+                {
+                    last.kind = Kind::Lock;
+                    last.body.clear();
+                    last.lock = shutting_lock(&mut self.random);
                 }
             }
             _ => {
@@ -228,8 +248,24 @@ impl Play<'_> {
         plan
     }
 
+    /// A kind that has a body if and only if this one has; of those that are
+    /// answered alike often the likest.
+    fn other_kind(&mut self, form: Form, kind: Kind) -> Kind {
+        match kind {
+            Kind::Blank if self.random.chance(60) => return Kind::Lock,
+            Kind::Lock if self.random.chance(60) => return Kind::Blank,
+            _ => {}
+        }
+        let others: Vec<Kind> = Kind::of_form(form)
+            .iter()
+            .copied()
+            .filter(|other| *other != kind && other.has_body() == kind.has_body())
+            .collect();
+        self.random.pick(&others)
+    }
+
     fn random_step(&mut self, kind: Option<Kind>) -> PlannedStep {
-        let kind = kind.unwrap_or_else(|| self.random.pick(&Kind::ALL));
+        let kind = kind.unwrap_or_else(|| self.random.pick(Kind::of_form(self.plan.form)));
         // Bodies of code blocks make long sheets.
         let area = match kind.has_body() {
             true if self.random.chance(90) => Area::Data,
@@ -244,9 +280,27 @@ impl Play<'_> {
         PlannedStep::random(&mut self.random, kind, span, &Flash::blank(model))
     }
 
+    /// Whether the step awaited, in the sheet in hand, is a lock to which
+    /// nothing is due.
+    fn nothing_is_due(&self) -> bool {
+        let calls = &self.tape.runner;
+        let step = calls.player().map_or(0, |player| player.steps_finished());
+        let Ok(sheet) = Sheet::read(calls.sheet()) else {
+            return false;
+        };
+        matches!(sheet.steps.get(step), Some(Step::Lock(lock)) if lock.clears_ifpr())
+    }
+
     fn reply(&mut self) -> String {
         let awaited = self.tape.runner.player().and_then(|player| player.awaited());
         let bytes = match awaited {
+            Some(Awaited::Lock) if self.nothing_is_due() => {
+                if self.random.chance(self.wrong_percent * 2) {
+                    self.word_of_a_shut_chip()
+                } else {
+                    Vec::new()
+                }
+            }
             Some(awaited) => {
                 // A sum has the most ways to go wrong.
                 let weight = if awaited == Awaited::Sum { 3 } else { 1 };
@@ -264,9 +318,24 @@ impl Play<'_> {
         self.tape.line(&byte_line("<", &bytes))
     }
 
+    /// Any byte at all where none is due.
+    fn word_of_a_shut_chip(&mut self) -> Vec<u8> {
+        match self.random.below(4) {
+            0 => frames::answer(&[status::ACK]),
+            1 => frames::answer(&[self.some_status()]),
+            2 => vec![self.random.pick(&[0x00, 0x02, 0x06, 0xFF])],
+            _ => {
+                let count = self.random.between(1, 8);
+                self.random.bytes(count)
+            }
+        }
+    }
+
     fn right_reply(&mut self, awaited: Awaited) -> Vec<u8> {
         match awaited {
-            Awaited::Block(_) | Awaited::Opening => frames::answer(&[status::ACK]),
+            Awaited::Block(_) | Awaited::Opening | Awaited::Blank | Awaited::Lock => {
+                frames::answer(&[status::ACK])
+            }
             Awaited::Page(_) => frames::answer(&[status::ACK, status::ACK]),
             Awaited::Sum => {
                 let sum = self.random.bytes(2);
@@ -333,7 +402,9 @@ impl Play<'_> {
     fn status_reply(&mut self, awaited: Awaited) -> Vec<u8> {
         let (first, second) = (self.some_status(), self.some_status());
         match awaited {
-            Awaited::Block(_) | Awaited::Opening => frames::answer(&[first]),
+            Awaited::Block(_) | Awaited::Opening | Awaited::Blank | Awaited::Lock => {
+                frames::answer(&[first])
+            }
             Awaited::Page(_) => match self.random.below(3) {
                 0 => frames::answer(&[status::ACK, second]),
                 1 => frames::answer(&[first, status::ACK]),

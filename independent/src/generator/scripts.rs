@@ -303,7 +303,7 @@ impl Script<'_> {
 
     fn blank_check(&mut self) -> Vec<u8> {
         let (sad, ead) = self.some_pair();
-        blanks::blank_check(sad, ead, blanks::random_tar(&mut self.random))
+        frames::blank_check(sad, ead, blanks::random_tar(&mut self.random))
     }
 
     fn pair_command(&mut self, code: u8) -> Vec<u8> {

@@ -1,53 +1,23 @@
 -- `joined_checks::waits` meets its contract, test by test. Assumes nothing.
-use mathlib.Core.Path.{_≡_, sym, ap, _∙_}
+use mathlib.Core.Path.{sym, ap, _∙_}
 use Prim.Native.Nat.{ℕ}
-use native.Mathlib.Omega.{arith}
 use lib.Dec.{eqb}
 use borrow.Author.Tests.{not-true, not-false}
-use Rattle.rules.specs.StandIn.{taskNow, received}
 use Rattle.rules.specs.Run.{waits}
-use Rattle.joined_checks.specs.Checks.{isIdle}
-use Rattle.joined_checks.proofs.Waiting.{other-phase, task-begun, waits-held}
 use borrow.Author.Needs.{needs}
 use Rattle.joined_checks.proofs.waits.Statement.{statement}
 use Rattle.joined_checks.proofs.waits.Tie as tie
 
 returns : tie.Need-returns
 unfolding waits
-returns c = λ m. let a = c .before .before .args in other-phase (a .c .phase) (taskNow (a .chip) (a .c .phase) (a .c .task)) (received (a .c .have) (a .held .now)) (sym (c .before .is-command .ensures) ∙ not-true _ (c .if1 .taken))
-
--- whether a command is begun
-idle : (c : tie.After-is-idle) → let a = c .before .before .before .before .args in isIdle (taskNow (a .chip) (a .c .phase) (a .c .task)) ≡ c .is-idle .result
-idle c = ap isIdle (sym (c .before .task-now .ensures)) ∙ sym (c .is-idle .ensures)
+returns c = λ m. rw (sym (c .before .is-free .ensures) ∙ not-true _ (c .if1 .taken))
 
 returns-2 : tie.Need-returns-2
 unfolding waits
 returns-2 c =
     λ m.
-    let x = c .before in
-    let e = x .before .before in
-    let a = e .before .before .args in
-    task-begun (a .c .phase) (taskNow (a .chip) (a .c .phase) (a .c .task)) (received (a .c .have) (a .held .now)) (sym (e .before .is-command .ensures) ∙ not-false _ (e .if1 .left)) (idle x ∙ not-true _ (c .if2 .taken))
-
-returns-3 : tie.Need-returns-3
-unfolding waits
-returns-3 c =
-    λ m.
-    let w = c .before .before in
-    let x = w .before in
-    let e = x .before .before in
-    let a = e .before .before .args in
-    ap (λ (n : ℕ). eqb n 0) (c .held-count .ensures .0)
-    ∙ waits-held (a .c .phase) (taskNow (a .chip) (a .c .phase) (a .c .task)) (a .c .have) (a .held .now) (sym (e .before .is-command .ensures) ∙ not-false _ (e .if1 .left)) (idle x ∙ not-false _ (w .if2 .left)) (omega arith)
+    let x = c .before .before in
+    rw (sym (x .before .is-free .ensures) ∙ not-false _ (x .if1 .left)) (ap (λ (n : ℕ). eqb n 1) (c .ifpr .ensures))
 
 pub waits-spec : {M : Type 1} → statement M
-waits-spec =
-    tie.close
-    (tie.spec
-    (λ c κs. search needs)
-    returns
-    (λ c κs. search needs)
-    (λ c κs. search needs)
-    returns-2
-    (λ c κs. search needs)
-    returns-3)
+waits-spec = tie.close (tie.spec (λ c κs. search needs) returns (λ c κs. search needs) returns-2)

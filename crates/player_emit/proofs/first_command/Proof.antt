@@ -45,10 +45,30 @@ returns-4 c =
     let a = e .before .before .before .args in
     x .pair-command3 .ensures ∙ by-kind (a .t) (a .frame .now) (e .enum-told4 .given .1)
 
+returns-5 : tie.Need-returns-5
+unfolding firstCommand
+returns-5 c =
+    let x = c .before .before in
+    let e = x .before .before in
+    let a = e .before .before .before .args in
+    x .pair-command4 .ensures ∙ by-kind (a .t) (a .frame .now) (e .enum-told5 .given .1)
+
+returns-6 : tie.Need-returns-6
+unfolding firstCommand
+returns-6 c =
+    let x = c .before .before in
+    let e = x .before .before in
+    let a = e .before .before .before .args in
+    x .lock-command .ensures ∙ by-kind (a .t) (a .frame .now) (e .enum-told6 .given .1)
+
 pub first-command-spec : {M : Type 1} → statement M
 first-command-spec =
     tie.close
     (tie.spec
+    (λ c. search needs)
+    (λ c κs. search needs)
+    (λ c. search needs)
+    (λ c κs. search needs)
     (λ c. search needs)
     (λ c κs. search needs)
     (λ c. search needs)
@@ -64,4 +84,8 @@ first-command-spec =
     (λ c. search needs)
     returns-3
     (λ c. search needs)
-    returns-4)
+    returns-4
+    (λ c. search needs)
+    returns-5
+    (λ c. search needs)
+    returns-6)

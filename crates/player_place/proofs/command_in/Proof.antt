@@ -20,6 +20,14 @@ returns-4 : tie.Need-returns-4
 unfolding commandIn
 returns-4 c = rw (c .enum-told4 .given .1)
 
+returns-5 : tie.Need-returns-5
+unfolding commandIn
+returns-5 c = rw (c .enum-told5 .given .1)
+
+returns-6 : tie.Need-returns-6
+unfolding commandIn
+returns-6 c = rw (c .enum-told6 .given .1)
+
 pub command-in-spec : {M : Type 1} → statement M
 command-in-spec =
     tie.close
@@ -29,7 +37,11 @@ command-in-spec =
     (λ c. search needs)
     (λ c. search needs)
     (λ c. search needs)
+    (λ c. search needs)
+    (λ c. search needs)
     returns
     returns-2
     returns-3
-    returns-4)
+    returns-4
+    returns-5
+    returns-6)

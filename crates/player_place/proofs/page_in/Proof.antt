@@ -20,6 +20,14 @@ returns-4 : tie.Need-returns-4
 unfolding pageIn
 returns-4 c = rw (c .enum-told4 .given .1)
 
+returns-5 : tie.Need-returns-5
+unfolding pageIn
+returns-5 c = rw (c .enum-told5 .given .1)
+
+returns-6 : tie.Need-returns-6
+unfolding pageIn
+returns-6 c = rw (c .enum-told6 .given .1)
+
 pub page-in-spec : {M : Type 1} → statement M
 page-in-spec =
     tie.close
@@ -30,7 +38,11 @@ page-in-spec =
     (λ c. search needs)
     (λ c κs. search needs)
     (λ c. search needs)
+    (λ c. search needs)
+    (λ c. search needs)
     returns
     returns-2
     returns-3
-    returns-4)
+    returns-4
+    returns-5
+    returns-6)

@@ -7,7 +7,8 @@ use lib.ListN.{length}
 use Rattle.rules.specs.declared.hex.HexMade.the-variants.{Sheet}
 use Rattle.rules.specs.Hex.{sheetOf, Making}
 use Rattle.chip_finder.specs.LentFlashes.{memory}
-use Rattle.text_hex.proofs.NamedBlocks.{named-count, sheet-length, many-steps, many-bytes, short-buffer, with-room, put-over}
+use Rattle.text_hex.proofs.NamedBlocks.{named-count, sheet-length, many-steps, many-bytes, short-buffer, with-room}
+use Rattle.text_out.proofs.Appended.{put-over}
 use borrow.Author.Needs.{needs}
 use Rattle.text_hex.proofs.make_sheet.Statement.{statement}
 use Rattle.text_hex.proofs.make_sheet.Tie as tie
@@ -94,7 +95,7 @@ returns-4 c =
     let z = sheet-length m (s .pre .0) (s .pre .1) (x .result) (y .result) (x .ensures .0) (y .ensures .0) in
     let r : c .before .before .before .before .before .before .sheet-size .result ≡ length (sheetOf m) = c .before .before .before .before .before .before .sheet-size .ensures ∙ z in
     let p = c .before .before .put-sheet in
-    let o = put-over (sheetOf m) (a .buf .now) _ (p .result) (p .ensures) (omega (arith, z)) in
+    let o = put-over (sheetOf m) (p .result) (a .buf .now) _ (p .ensures) (omega (arith, z)) in
     ap (λ (i : ℕ). record { made = Sheet i; out = p .last .0 }) r
     ∙ ap (λ (q : List ℕ). record { made = Sheet (length (sheetOf m)); out = q }) o
     ∙ sym (with-room m (length (a .buf .now)) (sheetOf m) (a .buf .now) (omega (arith, n)) (omega (arith, z)) (omega (arith, z)))

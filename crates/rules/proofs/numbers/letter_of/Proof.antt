@@ -60,10 +60,30 @@ returns-16 c = told _ _ (c .enum-told16 .given .1)
 returns-17 : tie.Need-returns-17
 returns-17 c = told _ _ (c .enum-told17 .given .1)
 
+returns-18 : tie.Need-returns-18
+returns-18 c = told _ _ (c .enum-told18 .given .1)
+
+returns-19 : tie.Need-returns-19
+returns-19 c = told _ _ (c .enum-told19 .given .1)
+
+returns-20 : tie.Need-returns-20
+returns-20 c = told _ _ (c .enum-told20 .given .1)
+
+returns-21 : tie.Need-returns-21
+returns-21 c = told _ _ (c .enum-told21 .given .1)
+
+returns-22 : tie.Need-returns-22
+returns-22 c = told _ _ (c .enum-told22 .given .1)
+
 pub letter-of-spec : {M : Type 1} → statement M
 letter-of-spec =
     tie.close
     (tie.spec
+    (λ c. search needs)
+    (λ c. search needs)
+    (λ c. search needs)
+    (λ c. search needs)
+    (λ c. search needs)
     (λ c. search needs)
     (λ c. search needs)
     (λ c. search needs)
@@ -97,4 +117,9 @@ letter-of-spec =
     returns-14
     returns-15
     returns-16
-    returns-17)
+    returns-17
+    returns-18
+    returns-19
+    returns-20
+    returns-21
+    returns-22)

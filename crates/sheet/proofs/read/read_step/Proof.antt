@@ -19,25 +19,25 @@ returns : tie.Need-returns
 returns c =
     let v = c .before .before in
     let a = v .before .before .args in
-    numbered _ _ (sym (no-sheet (a .chip) (a .sheet .now) (a .i) _ (sym (v .sheet-verdict .ensures) ∙ c .enum-told .given .1)))
+    numbered _ _ (sym (no-sheet (a .sheet .now) (a .i) _ (sym (v .sheet-verdict .ensures) ∙ c .enum-told .given .1)))
 
 -- the sheet was accepted
-kept : (c : tie.After-enum-told2) → let a = c .before .before .before .before .args in sheetVerdict (a .chip) (a .sheet .now) ≡ Accepted
+kept : (c : tie.After-enum-told2) → let a = c .before .before .before .before .args in sheetVerdict (a .sheet .now) ≡ Accepted
 kept c = sym (c .before .before .sheet-verdict .ensures) ∙ c .enum-told2 .given .1
 
 returns-2 : tie.Need-returns-2
 returns-2 c =
     let x = c .before .before in
     let a = x .before .before .before .before .args in
-    numbered _ _ (sym (no-step (a .chip) (a .sheet .now) (a .i) (kept x) (omega arith)))
+    numbered _ _ (sym (no-step (a .sheet .now) (a .i) (kept x) (omega arith)))
 
 returns-3 : tie.Need-returns-3
 returns-3 c =
-    let x = c .before .before .before in
+    let x = c .before .before .before .before in
     let a = x .before .before .before .before .args in
-    numbered _ _ (ap Is (c .step-at .ensures) ∙ sym (step-there (a .chip) (a .sheet .now) (a .i) (kept x) (omega arith)))
+    numbered _ _ (ap Is (rw (c .before .against .ensures) at (c .step-at .ensures)) ∙ sym (step-there (a .sheet .now) (a .i) (kept x) (omega arith)))
 
 pub read-step-spec : {M : Type 1} → statement M
 read-step-spec =
     tie.close
-    (tie.spec (λ c κs. search needs) (λ c. search needs) returns (λ c. search needs) (λ c κs. search needs) returns-2 (λ c κs. search needs) returns-3)
+    (tie.spec (λ c κs. search needs) (λ c. search needs) returns (λ c. search needs) (λ c κs. search needs) returns-2 (λ c κs. search needs) (λ c κs. search needs) returns-3)

@@ -13,7 +13,16 @@ returns-3 : tie.Need-returns-3
 returns-3 c = rw (ne-eqb _ 1 (c .before .before .if1 .left), ne-eqb _ 2 (c .before .if2 .left), eq-eqb _ 3 (c .if3 .taken))
 
 returns-4 : tie.Need-returns-4
-returns-4 c = rw (ne-eqb _ 1 (c .before .before .if1 .left), ne-eqb _ 2 (c .before .if2 .left), ne-eqb _ 3 (c .if3 .left))
+returns-4 c =
+    rw (ne-eqb _ 1 (c .before .before .before .if1 .left), ne-eqb _ 2 (c .before .before .if2 .left), ne-eqb _ 3 (c .before .if3 .left), eq-eqb _ 5 (c .if4 .taken))
+
+returns-5 : tie.Need-returns-5
+returns-5 c =
+    rw (ne-eqb _ 1 (c .before .before .before .before .if1 .left), ne-eqb _ 2 (c .before .before .before .if2 .left), ne-eqb _ 3 (c .before .before .if3 .left), ne-eqb _ 5 (c .before .if4 .left), eq-eqb _ 6 (c .if5 .taken))
+
+returns-6 : tie.Need-returns-6
+returns-6 c =
+    rw (ne-eqb _ 1 (c .before .before .before .before .if1 .left), ne-eqb _ 2 (c .before .before .before .if2 .left), ne-eqb _ 3 (c .before .before .if3 .left), ne-eqb _ 5 (c .before .if4 .left), ne-eqb _ 6 (c .if5 .left))
 
 pub kind-of-spec : {M : Type 1} → statement M
-kind-of-spec = tie.close (tie.spec returns returns-2 returns-3 returns-4)
+kind-of-spec = tie.close (tie.spec returns returns-2 returns-3 returns-4 returns-5 returns-6)

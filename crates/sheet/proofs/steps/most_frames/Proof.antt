@@ -21,7 +21,15 @@ returns-4 : tie.Need-returns-4
 unfolding mostFrames mostFor
 returns-4 c = (rw (c .enum-told4 .given .1), omega arith)
 
+returns-5 : tie.Need-returns-5
+unfolding mostFrames mostFor
+returns-5 c = (rw (c .enum-told5 .given .1), omega arith)
+
+returns-6 : tie.Need-returns-6
+unfolding mostFrames mostFor
+returns-6 c = (rw (c .enum-told6 .given .1), omega arith)
+
 pub most-frames-spec : {M : Type 1} → statement M
 most-frames-spec =
     tie.close
-    (tie.spec (λ c κs. search needs) (λ c κs. search needs) (λ c. search needs) (λ c. search needs) (λ c. search needs) (λ c. search needs) (λ c. search needs) (λ c. search needs) returns returns-2 returns-3 returns-4)
+    (tie.spec (λ c κs. search needs) (λ c κs. search needs) (λ c. search needs) (λ c. search needs) (λ c. search needs) (λ c. search needs) (λ c. search needs) (λ c. search needs) (λ c. search needs) (λ c. search needs) returns returns-2 returns-3 returns-4 returns-5 returns-6)

@@ -1,5 +1,8 @@
--- `sheet::table::entry_at` meets its contract: the fields stand behind the entry's place. Assumes nothing.
-use mathlib.Core.Path.{_∙_}
+-- `sheet::table::entry_at` meets its contract: the fields stand behind the head. Assumes nothing.
+use mathlib.Core.Path.{ap, _∙_}
+use Prim.Native.Nat.{ℕ, _+_, _*_}
+use lib.ListN.{drop}
+use Rattle.sheet.specs.Entry.{fieldsOf}
 use Rattle.sheet.proofs.Fields.{entry-there}
 use borrow.Author.Needs.{needs}
 use Rattle.sheet.proofs.table.entry_at.Statement.{statement}
@@ -7,15 +10,9 @@ use Rattle.sheet.proofs.table.entry_at.Tie as tie
 
 returns : tie.Need-returns
 returns c =
-    let f = c .before .before in
-    c .cut-entry .ensures ∙ entry-there (c .before .before .before .before .args .sheet .now) (c .before .before .before .before .args .i) (f .from-entry .result .now) (f .from-entry .ensures)
-
-returns-2 : tie.Need-returns-2
-returns-2 c =
-    let f = c .before .before in
-    c .whole-entry .ensures ∙ entry-there (c .before .before .before .before .args .sheet .now) (c .before .before .before .before .args .i) (f .from-entry .result .now) (f .from-entry .ensures)
+    let a = c .before .before .before .args in
+    c .entry-behind .ensures
+    ∙ entry-there (a .sheet .now) (a .i) _ (ap (λ (n : ℕ). drop (n + 12 * a .i) (a .sheet .now)) (c .before .head-size .ensures .0))
 
 pub entry-at-spec : {M : Type 1} → statement M
-entry-at-spec =
-    tie.close
-    (tie.spec (λ c κs. search needs) (λ c κs. search needs) returns (λ c κs. search needs) returns-2)
+entry-at-spec = tie.close (tie.spec (λ c κs. search needs) (λ c κs. search needs) returns)

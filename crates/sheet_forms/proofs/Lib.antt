@@ -1,0 +1,10 @@
+pub mod OneEntry
+pub mod Heads
+pub mod Moved
+pub mod Shifted
+pub mod Allowed
+pub mod Ways
+pub mod Means
+pub mod Back
+pub mod Outcomes
+pub mod Theorems

@@ -140,7 +140,7 @@ module _ (chip : Chip) (s : List ℕ) where
     Ended = (now· ≡ runFrom clean chip s 0 (mostCalls chip s) j .reached) × (each ≡ all)
 
     over-here : now· .player .stage ≡ Over → each ≡ all → Ended
-    over-here g e = (ap (λ (r : Ran). r .reached) (sym (over-ends chip s (t .turns) (t .calls) now· (t .some) g) ∙ t .leads), e)
+    over-here g e = (ap (λ (r : Ran). r .reached) (sym (over-ends chip s clean (t .turns) (t .calls) now· (t .some) g) ∙ t .leads), e)
 
     -- before a step the player is at its beginning
     at-beginning : (n left calls : ℕ) → Before chip s i n left calls now· → now· .player .stage ≡ cond (eqb i (count s)) Over Ready

@@ -20,7 +20,7 @@ use Rattle.rules.specs.Options.{IFPR}
 use Rattle.rules.specs.Sheet.{count, verdict, stepAt}
 use Rattle.rules.specs.Meaning.{Done, Ended, ended, stepMeaning, meaningFrom, meaning}
 use Rattle.rules.specs.Player.{player, well, Absorbed, beginning, started, Sent, reportOf, reportBy}
-use Rattle.rules.specs.Run.{clean, Joined, joining, takenIn, Ran, ran, none, runFrom, mostFrom, mostCalls, run, stepRun, waits}
+use Rattle.rules.specs.Run.{Line, clean, Joined, joining, takenIn, Ran, ran, none, runFrom, mostFrom, mostCalls, run, stepRun, waits}
 use Rattle.rules.proofs.Sheet.{chip-known}
 use Rattle.chip_finder.proofs.Known.{known-chip}
 use Rattle.sheet.proofs.Accepted.{whole, sound}
@@ -36,17 +36,17 @@ comes-as : {chip : Chip} {a b : Ended} {q r : Ran} → a ≡ b → q ≡ r → C
 comes-as e f c = rw (← e, ← f) c
 
 module _ (chip : Chip) (s : List ℕ) where
-  -- ---- the run ends where the player does ----
+  -- ---- the run ends where the player does, over any line ----
 
-  pub over-ends : (c calls : ℕ) (j : Joined) → 0 < calls → j .player .stage ≡ Over → runFrom clean chip s c calls j ≡ ran true j
+  pub over-ends : (line : Line) (c calls : ℕ) (j : Joined) → 0 < calls → j .player .stage ≡ Over → runFrom line chip s c calls j ≡ ran true j
   unfolding runFrom
-  over-ends c zero j h over = absurd (omega arith)
-  over-ends c (suc calls) j h over = rw (ap (λ (x : Sent). none (x .bytes)) (emit-over chip s (j .player) over))
+  over-ends line c zero j h over = absurd (omega arith)
+  over-ends line c (suc calls) j h over = rw (ap (λ (x : Sent). none (x .bytes)) (emit-over chip s (j .player) over))
 
   over-comes : (c calls : ℕ) (j : Joined) (e : Ended) → 0 < calls → j .player .stage ≡ Over → Settled chip (j .state) → endOf j ≡ e
       → Comes chip e (runFrom clean chip s c calls j)
   over-comes c calls j e h over settled there =
-      comes-as there (sym (over-ends c calls j h over)) (record { complete = refl; end = refl; over = over; settled = settled })
+      comes-as there (sym (over-ends clean c calls j h over)) (record { complete = refl; end = refl; over = over; settled = settled })
 
   -- ---- step after step ----
 

@@ -287,7 +287,7 @@ module _ (chip : Chip) (s : List ℕ) (i n : ℕ) (o : Options) (sums : List ℕ
     abbrev stand : State
     stand = rest Command (j .state .task) o m
 
-    fact : Sound chip s i now
+    pub fact : Sound chip s i now
     fact = sound chip s room ok i (mid .there)
 
     here : stepAt chip s (p .step) ≡ now
@@ -306,7 +306,7 @@ module _ (chip : Chip) (s : List ℕ) (i n : ℕ) (o : Options) (sums : List ℕ
     first-sent g kind =
         emit-first chip s p now here g refl ∙ ap (λ (c : Kind). sends (Commanded (now .kind)) p 0 (firstCommand c now)) kind
 
-    write-sent : p .stage ≡ Ready → now .kind ≡ Write → emitted chip s p ≡ sends (Commanded (now .kind)) p 0 (pairCommand 0x40 now)
+    pub write-sent : p .stage ≡ Ready → now .kind ≡ Write → emitted chip s p ≡ sends (Commanded (now .kind)) p 0 (pairCommand 0x40 now)
     unfolding firstCommand
     write-sent g kind = first-sent g kind
 
@@ -318,18 +318,18 @@ module _ (chip : Chip) (s : List ℕ) (i n : ℕ) (o : Options) (sums : List ℕ
     abbrev body : List ℕ
     body = bodyPage s now (p .at)
 
-    abbrev page : List ℕ
+    abbrev pub page : List ℕ
     page = frame dataStart (endDue (eqb k 1)) body
 
-    page-sent : p .stage ≡ Page (now .kind) → p .at + k ≡ stepPages now → emitted chip s p ≡ sends (Paged (now .kind)) p (p .at) page
+    pub page-sent : p .stage ≡ Page (now .kind) → p .at + k ≡ stepPages now → emitted chip s p ≡ sends (Paged (now .kind)) p (p .at) page
     page-sent stage z =
         emit-page chip s p now here stage
         ∙ ap (λ (b : Bool). sends (Paged (now .kind)) p (p .at) (frame dataStart (endDue b) body)) (last-page (p .at) k (stepPages now) z)
 
-    page-sized : p .at + k ≡ stepPages now → Inside s now → length body ≡ pageSize
+    pub page-sized : p .at + k ≡ stepPages now → Inside s now → length body ≡ pageSize
     page-sized z inside = page-length s now inside (p .at) (omega arith)
 
-    page-ahead : p .at + k ≡ stepPages now → (st : ℕ) → ahead chip (pagesAt now (p .at) k st) ≡ true
+    pub page-ahead : p .at + k ≡ stepPages now → (st : ℕ) → ahead chip (pagesAt now (p .at) k st) ≡ true
     page-ahead z st =
         let there = step-pages chip s i now fact in
         rw (lt-ltb 0 k (mid .some), le-leb (firstPage (now .flash) (now .first) + p .at + k) (pages chip (now .flash)) (omega arith))

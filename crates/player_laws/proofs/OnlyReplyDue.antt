@@ -39,7 +39,7 @@ parts (a ∷ b ∷ r) n l =
     rw (k, m) (ap (λ (ys : List ℕ). a ∷ b ∷ ys) (last-two r n (omega arith)))
 
 -- what was tested
-tested : (r : List ℕ) (n : ℕ) → framed n r ≡ true
+pub tested : (r : List ℕ) (n : ℕ) → framed n r ≡ true
     → (length r ≡ n + 4)
     × (byteAt r 0 ≡ dataStart)
     × (byteAt r 1 ≡ n)

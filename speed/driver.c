@@ -355,22 +355,26 @@ static void sheet_small_8(void)
 static void sheet_large_8(void)
 {
     sheet_begin(8);
-    for (size i = 0; i < 8; i++)
-        sheet_step(i, 2, code_at(i), code_at(i < 7 ? i + 4 : i + 3) - 1);
+    sheet_step(0, 2, 0, CODE_SIZE - 1);
+    sheet_step(1, 1, 0, CODE_SIZE - 1);
+    sheet_step(2, 2, 0, code_at(15) - 1);
+    for (size i = 3; i < 8; i++)
+        sheet_step(i, 4, code_at(i), code_at(i + 1) - 1);
 }
 
+// writes, each with an erase of its blocks behind it: no page is written twice (J13)
 static void sheet_small_64(void)
 {
     sheet_begin(64);
     for (size i = 0; i < 64; i++)
-        sheet_step(i, 2, data_at(i % 8), data_at(i % 8 + 1) - 1);
+        sheet_step(i, i % 2 ? 1 : 2, data_at(i / 2 % 8), data_at(i / 2 % 8 + 1) - 1);
 }
 
 static void sheet_large_64(void)
 {
     sheet_begin(64);
     for (size i = 0; i < 64; i++)
-        sheet_step(i, 2, data_at(i < 24 ? 0 : i % 8), data_at(i < 24 ? 8 : i % 8 + 1) - 1);
+        sheet_step(i, i % 2 ? 1 : 2, data_at(i < 56 ? 0 : i / 2 % 8), data_at(i < 56 ? 8 : i / 2 % 8 + 1) - 1);
 }
 
 #ifdef PLAY
@@ -431,12 +435,12 @@ static const struct row rows[] = {
     {"command frame, 1 step, 32768 bytes", PLAYER, sheet_large_1, 1},
     {"command frame, 8 steps, 16384 bytes", PLAYER, sheet_small_8, 1},
     {"command frame, 8 steps, 63488 bytes", PLAYER, sheet_large_8, 1},
-    {"command frame, 64 steps, 16384 bytes", PLAYER, sheet_small_64, 1},
-    {"command frame, 64 steps, 59392 bytes", PLAYER, sheet_large_64, 1},
+    {"command frame, 64 steps, 8192 bytes", PLAYER, sheet_small_64, 1},
+    {"command frame, 64 steps, 58368 bytes", PLAYER, sheet_large_64, 1},
     {"command and page, 1 step, 2048 bytes", PLAYER, sheet_small_1, 2},
     {"command and page, 1 step, 32768 bytes", PLAYER, sheet_large_1, 2},
-    {"command and page, 64 steps, 16384 bytes", PLAYER, sheet_small_64, 2},
-    {"command and page, 64 steps, 59392 bytes", PLAYER, sheet_large_64, 2},
+    {"command and page, 64 steps, 8192 bytes", PLAYER, sheet_small_64, 2},
+    {"command and page, 64 steps, 58368 bytes", PLAYER, sheet_large_64, 2},
 #ifdef PLAY
     {"a whole play, 65534 bytes, 21 steps", PLAY_ALL, sheet_largest, 0},
 #endif

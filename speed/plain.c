@@ -39,9 +39,11 @@ static size mixed(size sum, size number)
     return sum % 0x10000000000 * 31 + number % 65536;
 }
 
-// A refusal by its letter and number: 1 to 10 is J1 to J10, 11 and 12 are P1 and P2, 13 to 15 are D1 to D3, 16 is E1.
+// A refusal by its letter and number: 1 to 10 is J1 to J10, 11 and 12 are P1 and P2, 13 to 15 are D1 to D3, 16 is E1, 17 to 20 are J11 to J14.
 static size named(size refusal)
 {
+    if (refusal >= 17)
+        return 'J' * 256 + refusal - 6;
     if (refusal <= 10)
         return 'J' * 256 + refusal;
     if (refusal <= 12)
@@ -92,15 +94,15 @@ struct range {
 };
 
 // 1 if the pair is valid.
-static int range_of(u32 sad, u32 ead, struct range *r)
+static int range_in(u32 code_size, u32 data_size, u32 sad, u32 ead, struct range *r)
 {
     u32 block;
     if (sad > ead)
         return 0;
-    if (ead < CODE_SIZE) {
+    if (ead < code_size) {
         r->in_data = 0;
         block = CODE_BLOCK;
-    } else if (sad >= DATA_START && ead < DATA_START + DATA_SIZE) {
+    } else if (sad >= DATA_START && ead < DATA_START + data_size) {
         r->in_data = 1;
         block = DATA_BLOCK;
         sad -= DATA_START;
@@ -114,6 +116,11 @@ static int range_of(u32 sad, u32 ead, struct range *r)
 }
 
 #if defined(ENGINE) || defined(FRAMES) || defined(PLAY)
+
+static int range_of(u32 sad, u32 ead, struct range *r)
+{
+    return range_in(CODE_SIZE, DATA_SIZE, sad, ead, r);
+}
 
 // ---- the device
 
@@ -487,7 +494,9 @@ static int hand(struct device *d, const u8 *frame, size n, u8 *code, size code_n
 
 // ---- the sheet
 
-enum { ERASE = 1, WRITE, VERIFY, SUM };
+enum { ERASE = 1, WRITE, VERIFY, SUM, BLANK, LOCK };
+
+enum { LARGE_CODE = 64 * CODE_BLOCK, LARGE_DATA = 32 * DATA_BLOCK };
 
 struct step {
     u8 kind;
@@ -500,27 +509,77 @@ static u32 offset_at(const u8 *p)
     return word_at(p) | (u32)word_at(p + 2) << 16;
 }
 
-// 0, or 1 to 10 for J1 to J10.
+// FEh 02h begins form 2; of a sheet of two bytes and more.
+static int two_of(const u8 *s)
+{
+    return s[0] == 0xFE && s[1] == 0x02;
+}
+
+static size head_of(const u8 *s)
+{
+    return two_of(s) ? 6 : 2;
+}
+
+static size count_of(const u8 *s)
+{
+    return word_at(s + head_of(s) - 2);
+}
+
+// A lock whose flags clear IFPR.
+static int clears(const u8 *e)
+{
+    return !(e[2] & 0x04);
+}
+
+// 1 if a step writes a block that stands written; of accepted entries.
+static int writes_twice(const u8 *s, size count)
+{
+    u8 code[LARGE_CODE / CODE_BLOCK] = {0}, data[LARGE_DATA / DATA_BLOCK] = {0};
+    for (size i = 0; i < count; i++) {
+        const u8 *e = s + head_of(s) + 12 * i;
+        struct range r;
+        if (e[0] > WRITE || !range_in(LARGE_CODE, LARGE_DATA, address_at(e + 1), address_at(e + 4), &r))
+            continue;
+        u8 *written = r.in_data ? data : code;
+        u32 block = r.in_data ? DATA_BLOCK : CODE_BLOCK;
+        for (u32 b = r.from / block; b < r.to / block; b++) {
+            if (e[0] == WRITE && written[b])
+                return 1;
+            written[b] = e[0] == WRITE;
+        }
+    }
+    return 0;
+}
+
+// 0, or 1 to 10 for J1 to J10, 17 to 20 for J11 to J14; for the small chip.
 static int judge(const u8 *s, size n, size room)
 {
-    if (n < 2 || n > 65536)
+    if (n < 2)
         return 1;
-    size count = word_at(s);
+    int two = two_of(s), large = two && s[2] == 2;
+    size head = head_of(s);
+    if (n < head || n > (two ? 65540 : 65536))
+        return 1;
+    size count = word_at(s + head - 2);
     if (count > 64)
         return 2;
-    size due = 2 + 12 * count;
+    if (two && ((s[2] != 1 && s[2] != 2) || s[3] != 0))
+        return 17;
+    size due = head + 12 * count;
     if (n < due)
         return 3;
     for (size i = 0; i < count; i++) {
-        const u8 *e = s + 2 + 12 * i;
+        const u8 *e = s + head + 12 * i;
         u32 sad = address_at(e + 1), ead = address_at(e + 4);
         struct range r;
-        if (e[0] < ERASE || e[0] > SUM)
+        if (e[0] < ERASE || e[0] > (two ? LOCK : SUM))
             return 4;
         if (e[7] != 0)
             return 5;
-        if (!range_of(sad, ead, &r))
+        if (e[0] != LOCK && !range_in(large ? LARGE_CODE : CODE_SIZE, large ? LARGE_DATA : DATA_SIZE, sad, ead, &r))
             return 6;
+        if (e[0] == LOCK && ((clears(e) && i + 1 != count) || e[3] != 0 || ead != 0))
+            return 18;
         if (offset_at(e + 8) != due)
             return 7;
         if (e[0] == WRITE || e[0] == VERIFY)
@@ -530,6 +589,10 @@ static int judge(const u8 *s, size n, size room)
     }
     if (n != due)
         return 9;
+    if (writes_twice(s, count))
+        return 19;
+    if (large)
+        return 20;
     if (room < count)
         return 10;
     return 0;
@@ -538,7 +601,7 @@ static int judge(const u8 *s, size n, size room)
 // Step i of an accepted sheet.
 static struct step step_at(const u8 *s, size i)
 {
-    const u8 *e = s + 2 + 12 * i;
+    const u8 *e = s + head_of(s) + 12 * i;
     struct step t;
     t.kind = e[0];
     t.sad = address_at(e + 1);
@@ -552,7 +615,7 @@ static struct step step_at(const u8 *s, size i)
 // ---- the player
 
 // READY is at the beginning of a step; from its first frame on the record keeps the step's kind.
-enum { NEW, READY, BLOCK, ERASED, OPENED, SUMMED, PAGES, PAGED, OVER };
+enum { NEW, READY, BLOCK, ERASED, OPENED, SUMMED, CHECKED, LOCKED, PAGES, PAGED, OVER };
 enum { L1 = 0x100 };
 
 struct player {
@@ -598,7 +661,7 @@ static void finish(const u8 *s, struct player *p, u16 sum, u16 *sums)
 {
     sums[p->step++] = sum;
     p->at = 0;
-    p->stage = p->step == word_at(s) ? OVER : READY;
+    p->stage = p->step == count_of(s) ? OVER : READY;
 }
 
 // The reply is taken in.
@@ -609,7 +672,7 @@ static void absorb(const u8 *s, struct player *p, const u8 *reply, size n, u16 *
     switch (p->stage) {
     case NEW:
         *p = new_player;
-        p->stage = word_at(s) == 0 ? OVER : READY;
+        p->stage = count_of(s) == 0 ? OVER : READY;
         break;
     case ERASED:
         status = command_reply(reply, n);
@@ -634,6 +697,17 @@ static void absorb(const u8 *s, struct player *p, const u8 *reply, size n, u16 *
             stop(p, status, 0);
         else
             finish(s, p, word_at(reply + 7), sums);
+        break;
+    case CHECKED:
+    case LOCKED:
+        if (p->stage == LOCKED && clears(s + head_of(s) + 12 * p->step))
+            status = n == 0 ? 0x06 : L1;
+        else
+            status = command_reply(reply, n);
+        if (status != 0x06)
+            stop(p, status, 0);
+        else
+            finish(s, p, 0, sums);
         break;
     case PAGED:
         status = data_reply(reply, n);
@@ -702,6 +776,18 @@ static size emit(const u8 *s, struct player *p, u8 *frame)
     case VERIFY:
         n = pair_command(frame, 0x13, &t);
         p->stage = OPENED;
+        break;
+    case BLANK:
+        pair_command(frame, 0x32, &t);
+        frame[9] = 0x00;
+        n = end_frame(frame, 0x01, 8, 0x03);
+        p->stage = CHECKED;
+        break;
+    case LOCK:
+        frame[2] = 0xA0;
+        put_address(frame + 3, t.sad);
+        n = end_frame(frame, 0x01, 4, 0x03);
+        p->stage = LOCKED;
         break;
     default:
         n = pair_command(frame, 0xB0, &t);
@@ -796,7 +882,7 @@ static int lost(const u8 *s, const struct player *p)
 {
     if (p->stage == NEW || p->stage == OVER)
         return 0;
-    if (p->step >= word_at(s))
+    if (p->step >= count_of(s))
         return 1;
     if (p->stage == READY)
         return 0;
@@ -815,7 +901,7 @@ static int lost(const u8 *s, const struct player *p)
     }
 }
 
-// A player call: the size of the next frame, 0 at the end, or minus 1 to 10 for J1 to J10, -11 for P1, -12 for P2.
+// A player call: the size of the next frame, 0 at the end, or minus 1 to 10 for J1 to J10, -11 for P1, -12 for P2, -17 to -20 for J11 to J14.
 static long next(const u8 *s, size s_n, struct player *p, const u8 *reply, size reply_n, u8 *frame, size frame_n, u16 *sums, size sums_n)
 {
     int refusal = judge(s, s_n, sums_n);
@@ -863,7 +949,7 @@ size plain_player(const u8 *sheet, size sheet_n, const u8 *replies, size replies
 #endif
 
 #ifdef PLAY
-// A new player plays the sheet to a fresh chip in phase Command. A refusal is 1 to 10 for J1 to J10, 11 for P1, 13 to 15 for D1 to D3.
+// A new player plays the sheet to a fresh chip in phase Command. A refusal is 1 to 10 for J1 to J10, 11 for P1, 13 to 15 for D1 to D3, 17 to 20 for J11 to J14.
 size plain_play(const u8 *sheet, size sheet_n, u8 *held, u8 *code, size code_n, u8 *data, size data_n, u8 *reply, size reply_n, u8 *frame, size frame_n, u16 *sums, size sums_n, size *each)
 {
     struct device d = waiting;

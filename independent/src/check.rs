@@ -24,8 +24,13 @@ fn check_case(random: &mut Random) -> Result<(), String> {
     bring_up(&mut chip).map_err(|refusal| format!("refused {refusal:?}"))?;
     must(chip.waits_for_command(), "the chip does not wait for a command")?;
 
-    let size = random_size(random);
-    let bytes = Plan::random(random, &chip.flash, &chip.options, size).bytes();
+    let plan = if random.chance(15) {
+        Plan::over_few_blocks(random, &chip.flash, true)
+    } else {
+        let size = random_size(random);
+        Plan::random(random, &chip.flash, &chip.options, size)
+    };
+    let bytes = plan.bytes();
     let sheet =
         Sheet::read_for(&bytes, chip.model()).map_err(|refusal| format!("refused {refusal:?}"))?;
 

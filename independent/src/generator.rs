@@ -99,7 +99,7 @@ impl<R: LineRunner> Tape<R> {
     /// Whether a long line may still come: the programs read no more than
     /// `MOST_INPUT` bytes, and the cases to come need some of them.
     fn has_room(&self) -> bool {
-        self.text.len() < MOST_INPUT / 5 * 2
+        self.text.len() < MOST_INPUT / 3
     }
 
     /// Adds a line, given with or without its LF, and gives what the program

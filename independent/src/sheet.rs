@@ -1,5 +1,7 @@
 //! The job sheet in both its forms: read, judged, written and moved.
 
+use std::collections::BTreeSet;
+
 use crate::chip::{D0, Model, Span};
 use crate::frames::address_bytes;
 use crate::options::IFPR;
@@ -219,6 +221,9 @@ impl<'a> Sheet<'a> {
         if body_start != bytes.len() {
             return Err(Jn(9));
         }
+        if writes_a_page_twice(&steps) {
+            return Err(Jn(13));
+        }
         Ok(Sheet { form, model, steps })
     }
 
@@ -306,6 +311,29 @@ fn read_lock(entry: &[u8], last: bool) -> Result<Lock, Jn> {
         return Err(Jn(12));
     }
     Ok(lock)
+}
+
+/// Whether two write steps cover the same page with no erase step of its block
+/// between them, whatever they write.
+pub fn writes_a_page_twice(steps: &[Step]) -> bool {
+    // The pages written and not erased since, by their first address.
+    let mut written: BTreeSet<u32> = BTreeSet::new();
+    for step in steps {
+        match step {
+            Step::Erase(span) => {
+                written.retain(|page| !(span.first_address()..=span.last_address()).contains(page));
+            }
+            Step::Write(span, _) => {
+                for index in 0..span.pages() {
+                    if !written.insert(span.page(index).first_address()) {
+                        return true;
+                    }
+                }
+            }
+            _ => {}
+        }
+    }
+    false
 }
 
 /// A sheet in the form asked for.

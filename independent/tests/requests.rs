@@ -960,3 +960,82 @@ options EF FA FFFF FFFF
         assert_eq!(run(&["meaning-check", "106", "1000"], &[]), "ok 1000\n");
     }
 }
+
+mod m107_two_writes_to_one_page {
+    use super::*;
+
+    const ERASE: u8 = 1;
+    const WRITE: u8 = 2;
+    const VERIFY: u8 = 3;
+    const SUM: u8 = 4;
+
+    /// A sheet over data blocks: kind, first block, last block; all bodies FFh.
+    /// Form 2 if a chip is named.
+    fn sheet(chip: Option<u8>, steps: &[(u8, u8, u8)]) -> Vec<u8> {
+        let mut sheet = match chip {
+            Some(chip) => vec![0xFE, 2, chip, 0],
+            None => Vec::new(),
+        };
+        sheet.extend([steps.len() as u8, 0]);
+        let mut offset = sheet.len() + 12 * steps.len();
+        for &(kind, first, last) in steps {
+            sheet.extend([kind, 0x00, 0x10 + first, 0x0F, 0xFF, 0x10 + last, 0x0F, 0x00]);
+            sheet.extend((offset as u32).to_le_bytes());
+            if kind == WRITE || kind == VERIFY {
+                offset += 256 * usize::from(last + 1 - first);
+            }
+        }
+        sheet.resize(offset, 0xFF);
+        sheet
+    }
+
+    fn is_refused(steps: &[(u8, u8, u8)]) -> bool {
+        let told = run(&["play"], &sheet(None, steps));
+        assert_eq!(run(&["play"], &sheet(Some(1), steps)), told);
+        assert!(told == "refused J13\n" || told.contains("\nend 06 "), "{told}");
+        told == "refused J13\n"
+    }
+
+    #[test]
+    fn with_and_without_an_erase_between() {
+        assert!(is_refused(&[(WRITE, 0, 0), (WRITE, 0, 0)]));
+        assert!(!is_refused(&[(WRITE, 0, 0), (ERASE, 0, 0), (WRITE, 0, 0)]));
+        assert!(is_refused(&[
+            (ERASE, 0, 0),
+            (WRITE, 0, 0),
+            (VERIFY, 0, 0),
+            (SUM, 0, 0),
+            (WRITE, 0, 0)
+        ]));
+        assert!(!is_refused(&[(WRITE, 0, 0), (VERIFY, 0, 0), (VERIFY, 0, 0)]));
+        // Pages in common, and an erase of some, or of more.
+        assert!(is_refused(&[(WRITE, 0, 2), (WRITE, 2, 4)]));
+        assert!(!is_refused(&[(WRITE, 0, 2), (WRITE, 3, 4)]));
+        assert!(is_refused(&[(WRITE, 0, 2), (ERASE, 0, 1), (WRITE, 1, 2)]));
+        assert!(!is_refused(&[(WRITE, 0, 2), (ERASE, 1, 7), (WRITE, 1, 7)]));
+        assert!(is_refused(&[(WRITE, 0, 2), (ERASE, 1, 7), (WRITE, 1, 7), (WRITE, 0, 0)]));
+        // Between the second and the third there is none.
+        assert!(is_refused(&[(WRITE, 0, 0), (ERASE, 0, 0), (WRITE, 0, 0), (WRITE, 0, 0)]));
+        assert!(is_refused(&[(WRITE, 0, 0), (WRITE, 0, 0), (ERASE, 0, 0)]));
+    }
+
+    #[test]
+    fn order() {
+        let twice = [(WRITE, 0, 0), (WRITE, 0, 0)];
+        let mut left_over = sheet(None, &twice);
+        left_over.push(0);
+        assert_eq!(run(&["play"], &left_over), "refused J9\n");
+        assert_eq!(run(&["play"], &sheet(Some(2), &twice)), "refused J13\n");
+        let script = format!("{}sums 0\ngo\n", sheet_line(&sheet(None, &twice)));
+        assert_eq!(run(&["frames"], script.as_bytes()), "refused J13\n");
+        // A move names it before J15.
+        for chip in [None, Some(1), Some(2)] {
+            for way in ["up", "down"] {
+                assert_eq!(
+                    ended(&["form", way], &sheet(chip, &twice)).errors,
+                    "form: refused J13\n"
+                );
+            }
+        }
+    }
+}

@@ -4,3 +4,4 @@ pub mod Parts
 pub mod Places
 pub mod Spots
 pub mod ThereAndBack
+pub mod Held

@@ -33,6 +33,10 @@ byteIn chip f offset a =
 unfoldable pub pairOf : Chip → Flash → Address → Address → Range
 pairOf chip f sad ead = cond (pairIn chip f sad ead) (Blocks f (blockAt f sad) (blockAt f ead)) Invalid
 
+-- the blocks that two addresses lie in, whether they begin and end one, and as if the flash had no end
+abbrev pub heldIn : Flash → Address → Address → Range
+heldIn f sad ead = Blocks f (blockAt f sad) (blockAt f ead)
+
 -- a flash of that length has part number n, and the parts from first to last
 abbrev pub isThere : ℕ → ℕ → ℕ → ℕ → Bool
 isThere len size count n = eqb len (count * size) && ltb n count

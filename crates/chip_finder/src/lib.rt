@@ -12,7 +12,8 @@ ghost use lib.Dec.{eqb};
 ghost use lib.ListN.{length};
 ghost use Rattle.rules.specs.Chip.{known, blockSize, start, blocks, flashSize, pagesPerBlock, pageSize, pages, flashOf, firstByte, lastByte, eraseAddress, range, nowhere, invalid, shown, blockShown, pageShown};
 ghost use Rattle.chip_finder.specs.LentFlashes.{memory, rangeShown};
-ghost use Rattle.chip_finder.specs.OneFlash.{spotIn, spotOf, byteIn, pairOf, placeOf, partsShown};
+ghost use Rattle.chip_finder.specs.OneFlash.{spotIn, spotOf, byteIn, pairOf, heldIn, placeOf, partsShown};
+ghost use Rattle.chip_finder.specs.Held.{blocksHeld};
 
 // The bytes of a page.
 pub const PAGE_SIZE: usize = 256;
@@ -193,6 +194,34 @@ pub fn range(chip: Chip, sad: Address, ead: Address) -> Range
         Range::Blocks(f, first, last) => Range::Blocks(f, first, last),
         Range::Invalid => pair_in(chip, Flash::Data, sad, ead),
     }
+}
+
+// The blocks of one flash that two addresses behind its start lie in, as if it had no end.
+fn held_in(f: Flash, sad: Address, ead: Address) -> Range
+    requires { ⌜ (start f ≤ sad .0) × (start f ≤ ead .0) × (sad .0 < 16777216) × (ead .0 < 16777216) ⌝ }
+    ensures { λ r. ⌜ r ≡ heldIn f sad ead ⌝ }
+{
+    let size = block_size(f) as u32;
+    let from = start_of(f);
+    let first = (sad.0 - from) / size;
+    let last = (ead.0 - from) / size;
+    Range::Blocks(f, Block(first as u16), Block(last as u16))
+}
+
+// The blocks that two addresses of three bytes lie in: of a valid pair its range, found without judging the pair again.
+pub fn blocks_held(sad: Address, ead: Address) -> Range
+    ensures { λ r. ⌜ r ≡ blocksHeld sad ead ⌝ }
+{
+    if ead.0 < sad.0 {
+        return Range::Invalid;
+    }
+    if 0xFFFFFF < ead.0 {
+        return Range::Invalid;
+    }
+    if sad.0 < 0xF1000 {
+        return held_in(Flash::Code, sad, ead);
+    }
+    held_in(Flash::Data, sad, ead)
 }
 
 // There is no such block.

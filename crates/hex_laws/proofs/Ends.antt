@@ -12,7 +12,7 @@ use borrow.Author.Tests.{eqb-true, lt-ltb, le-ltb, ltb-true, ltb-false}
 use Rattle.rules.specs.declared.Flash.{Flash}
 use Rattle.rules.specs.declared.Options.{Options}
 use Rattle.rules.specs.declared.Status.the-variants.{Byte}
-use Rattle.rules.specs.Chip.{Memory, small, byteAt, partOf, blankByte, blocks, blockSize, pagesPerBlock, flashSize, flashOf}
+use Rattle.rules.specs.Chip.{sameFlash, Memory, small, byteAt, partOf, blankByte, blocks, blockSize, pagesPerBlock, flashSize, flashOf}
 use Rattle.rules.specs.Sheet.{formTwo, count}
 use Rattle.rules.specs.Meaning.{Ended, meaningFrom, meaning}
 use Rattle.rules.specs.Hex.{notGiven, anyGiven, Named, blockCells, cellByte, cellBytes, blocksNamed, bodyOf, stepsOf, sheetOf}
@@ -20,8 +20,9 @@ use Rattle.rules.proofs.Choices.{both}
 use Rattle.chip_finder.proofs.Geometry.{size-bounds}
 use Rattle.chip_finder.proofs.Parts.{inside, length-part}
 use Rattle.joined_laws.specs.Turns.{Fit}
+use Rattle.rules.proofs.WritesTwice.{same-flash}
 use Rattle.hex_laws.specs.Programmed.{Given, inNamed, Unprotected, Finished}
-use Rattle.hex_laws.proofs.NamedOnce.{sameFlash, same-flash, isBlock, names, blocks-named}
+use Rattle.hex_laws.proofs.NamedOnce.{isBlock, names, blocks-named}
 use Rattle.hex_laws.proofs.OneBlock.{rewritten, parts-after, fit-after, block-meaning}
 use Rattle.hex_laws.proofs.SheetMade.{body-length, Ahead, next, form-one, all-ahead}
 

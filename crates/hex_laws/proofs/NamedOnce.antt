@@ -8,31 +8,14 @@ use lib.Dec.{ltb, leb, eqb}
 use borrow.Author.Tests.{eqb-true, eqb-false, eq-eqb, ne-eqb, lt-ltb, le-leb, leb-true}
 use Rattle.rules.specs.declared.Flash.{Flash}
 use Rattle.rules.specs.declared.Flash.the-variants.{Code, Data}
-use Rattle.rules.specs.Chip.{Memory, small, start, blocks, blockSize, firstByte}
+use Rattle.rules.specs.Chip.{sameFlash, Memory, small, start, blocks, blockSize, firstByte}
+use Rattle.rules.proofs.WritesTwice.{same-flash, own-flash}
 use Rattle.rules.proofs.Choices.{both}
 use Rattle.chip_finder.proofs.Geometry.{size-bounds}
 use Rattle.chip_finder.proofs.Parts.{below}
 use Rattle.rules.specs.Hex.{anyGiven, Named, named, blockCells, namedFrom, blocksNamed}
 
 -- ---- one of them ----
-
-unfoldable pub sameFlash : Flash → Flash → Bool
-sameFlash Code Code = true
-sameFlash Code Data = false
-sameFlash Data Code = false
-sameFlash Data Data = true
-
-pub same-own : (f : Flash) → sameFlash f f ≡ true
-unfolding sameFlash
-same-own Code = refl
-same-own Data = refl
-
-pub same-flash : (f g : Flash) → sameFlash f g ≡ true → f ≡ g
-unfolding sameFlash
-same-flash Code Code e = refl
-same-flash Code Data e = absurd (false≢true e)
-same-flash Data Code e = absurd (false≢true e)
-same-flash Data Data e = refl
 
 -- it is block i of that flash; one of these is
 abbrev pub isBlock : Named → Flash → ℕ → Bool
@@ -61,7 +44,7 @@ module _ (m : Memory) (f : Flash) where
   named-before (suc n) i j h = go (anyGiven (blockCells m f i)) (namedFrom m f (i + 1) n) (named-before n (i + 1) j (omega arith))
     where
       go : (x : Bool) (l : List Named) → names l f j ≡ false → names (cond x (named f i ∷ l) l) f j ≡ false
-      go true l e = rw (same-own f, ne-eqb i j (λ z. omega arith), e)
+      go true l e = rw (own-flash f, ne-eqb i j (λ z. omega arith), e)
       go false l e = e
 
   -- none of the other flash
@@ -80,11 +63,11 @@ module _ (m : Memory) (f : Flash) where
   named-there (suc n) i j h g = go (eqb i j) refl (named-there n (i + 1) j)
     where
       here : (x : Bool) (l : List Named) → names l f j ≡ false → i ≡ j → names (cond x (named f i ∷ l) l) f j ≡ x
-      here true l e q = rw (same-own f, eq-eqb i j q)
+      here true l e q = rw (own-flash f, eq-eqb i j q)
       here false l e q = e
 
       later : (x : Bool) (l : List Named) → (i ≡ j → ⊥) → names (cond x (named f i ∷ l) l) f j ≡ names l f j
-      later true l q = rw (same-own f, ne-eqb i j q)
+      later true l q = rw (own-flash f, ne-eqb i j q)
       later false l q = refl
 
       go : (t : Bool) → eqb i j ≡ t → (i + 1 ≤ j → j < i + 1 + n → names (namedFrom m f (i + 1) n) f j ≡ anyGiven (blockCells m f j))

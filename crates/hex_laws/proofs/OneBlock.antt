@@ -16,11 +16,12 @@ use Rattle.rules.specs.declared.Kind.{Kind}
 use Rattle.rules.specs.declared.Kind.the-variants.{Erase, Write, Verify}
 use Rattle.rules.specs.declared.Options.{Options}
 use Rattle.rules.specs.declared.Step.{Step}
-use Rattle.rules.specs.Chip.{Memory, small, blank, blankByte, block, blocks, blockSize, firstByte, firstPage, pageSize, pagesPerBlock, partOf, putPart, eraseBlock, flashOf, withFlash}
+use Rattle.rules.specs.Chip.{Memory, sameFlash, small, blank, blankByte, block, blocks, blockSize, firstByte, firstPage, pageSize, pagesPerBlock, partOf, putPart, eraseBlock, flashOf, withFlash}
 use Rattle.rules.specs.Options.{eraseProtected, writeProtected}
 use Rattle.rules.specs.Sheet.{flagsOf, stepAt, bodyPage}
 use Rattle.rules.specs.Meaning.{tried, eraseFrom, writeFrom, done, eraseDone, writeDone, stepDone, stepMeaning, optionsBy, optionsAfter, meaningFrom}
 use Rattle.rules.specs.Hex.{Named}
+use Rattle.rules.proofs.WritesTwice.{own-flash}
 use Rattle.octets.proofs.Lists.{same-refl}
 use Rattle.chip_finder.proofs.Geometry.{blocks-in-pages}
 use Rattle.chip_finder.proofs.Parts.{inside, length-put, part-put-other}
@@ -30,7 +31,7 @@ use Rattle.joined_laws.proofs.MeaningSteps.{erase-means, erase-last}
 use Rattle.joined_laws.proofs.Sizes.{fit-put, fit-erased}
 use Rattle.hex_laws.specs.Programmed.{Unprotected}
 use Rattle.hex_laws.proofs.BytesLaid.{laid, put-laid, laid-none, laid-on, erased, pages-blank, part-after}
-use Rattle.hex_laws.proofs.NamedOnce.{sameFlash, same-own, isBlock}
+use Rattle.hex_laws.proofs.NamedOnce.{isBlock}
 
 -- ---- one block ----
 
@@ -196,7 +197,7 @@ module _ (o : Options) (free : Unprotected o) (s : List ℕ) (i : ℕ) (b : Name
       let p = 1 + pagesPerBlock f in
       let after = rewritten f (b .block) body m in
       let k : partOf (blockSize f) (b .block .0) (flashOf after f) ≡ body =
-      parts-after m fit b body h l f (b .block .0) ∙ rw (same-own f, eq-eqb (b .block .0) (b .block .0) refl) in
+      parts-after m fit b body h l f (b .block .0) ∙ rw (own-flash f, eq-eqb (b .block .0) (b .block .0) refl) in
       step-on o s i n (suc (suc left)) 1 m (eraseBlock m f (b .block)) sums (rw (three .erase)) (rw (three .erase) (erased-block o free s f (b .block) at m))
       ∙ step-on o s (i + 1) (n + 1) (suc left) p (eraseBlock m f (b .block)) after (set sums i 0) (rw (three .write)) (rw (three .write, ← three .writes) (written-block o s f (b .block) free h at m fit (three .inside)))
       ∙ step-on o s (i + 1 + 1) (n + 1 + p) left p after after (set (set sums i 0) (i + 1) 0) (rw (three .verify)) (rw (three .verify) (verified-block o s f (b .block) (three .other) after (k ∙ sym (three .compares))))

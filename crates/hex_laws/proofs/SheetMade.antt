@@ -4,16 +4,18 @@ use mathlib.Core.Bool.{true, false}
 use mathlib.Core.List.{List, [], _∷_, _++_, append-assoc}
 use Prim.Native.Nat.{ℕ, zero, suc, _+_, _-_, _*_, _/_, _%_, _<_, _≤_}
 use native.Mathlib.Omega.{arith}
-use lib.Dec.{ltb}
+use lib.Dec.{ltb, eqb}
 use lib.ListN.{length, take, drop, length-append, length-drop}
 use lib.Seq.{take-at, drop-at, drop-drop}
-use borrow.Author.Tests.{eq-eqb, ne-eqb, ltb-true}
+use borrow.Author.Tests.{eq-eqb, ne-eqb, le-leb, ltb-true}
+use Rattle.rules.specs.declared.Chip.{Chip}
 use Rattle.rules.specs.declared.Range.the-variants.{Blocks}
 use Rattle.rules.specs.declared.Verdict.the-variants.{Accepted}
 use Rattle.rules.specs.Chip.{Memory, small, known, blocks, blockSize, flashOf, firstByte, lastByte, range}
-use Rattle.rules.specs.Sheet.{formTwo, count, bodyEnd, offsetDue, entryVerdict, entriesVerdict, verdict, kindOf, stepOf, stepAt}
+use Rattle.rules.specs.Sheet.{formTwo, against, count, kindAt, rangeAt, written, anyFrom, writesAgain, bodyEnd, offsetDue, entryVerdict, entriesVerdict, verdict, kindOf, stepOf, stepAt}
 use Rattle.rules.specs.Hex.{Named, blocksNamed, blockCells, cellBytes, bodyOf, entryOf, entriesOf, bodiesOf, stepsOf, sheetOf}
-use Rattle.rules.proofs.Choices.{both}
+use Rattle.rules.proofs.Choices.{both, and-false}
+use Rattle.rules.proofs.WritesTwice.{own-flash}
 use Rattle.chip_finder.proofs.Geometry.{size-bounds}
 use Rattle.chip_finder.proofs.Parts.{inside, length-part}
 use Rattle.chip_finder.proofs.ThereAndBack.{range-there}
@@ -72,6 +74,19 @@ module _ (s : List ℕ) (form : formTwo s ≡ false) (i kind at : ℕ) (b : Name
   entry-range : range small (firstByte (b .flash) (b .block)) (lastByte (b .flash) (b .block)) ≡ Blocks (b .flash) (b .block) (b .block)
   entry-range = range-there small (sized .apart) (b .flash) (b .block) (b .block) (omega arith) h
 
+  entry-kind : kindAt s i ≡ kind
+  entry-kind = sym (ap (λ (x : Entry). x .kind) entry-said)
+
+  entry-ranged : rangeAt (against s) s i ≡ Blocks (b .flash) (b .block) (b .block)
+  entry-ranged =
+      ap (λ (c : Chip). rangeAt c s i) (against-one s form)
+      ∙ sym (ap (λ (x : Entry). range small (x .sad) (x .ead)) entry-said)
+      ∙ entry-range
+
+  -- J13: only a write can break it, and the entry before a write erases its block
+  not-again : (kind ≡ 2 → ⊥) → writesAgain s i ≡ false
+  not-again n = rw (entry-kind, ne-eqb kind 2 n)
+
   entry-step : stepAt small s i ≡ stepFor (kindOf kind) (b .flash) (b .block) at
   unfolding stepOf
   entry-step = sym (step-said small s i (saying kind b at) entry-said) ∙ rw entry-range
@@ -89,6 +104,17 @@ module _ (s : List ℕ) (form : formTwo s ≡ false) (i kind at : ℕ) (b : Name
       (sym (x .lock) ∙ rw other)
       (sym (x .offset) ∙ sym due)
       end
+
+-- an entry that erases the block, and behind it one that writes it
+erased-before : (s : List ℕ) (form : formTwo s ≡ false) (i at : ℕ) (b : Named) (more rest : List ℕ) → b .block .0 < blocks small (b .flash) → at ≤ 65536
+    → drop (2 + 12 * i) s ≡ entryOf 1 b at ++ more → drop (2 + 12 * (i + 1)) s ≡ entryOf 2 b at ++ rest → writesAgain s (i + 1) ≡ false
+unfolding written anyFrom
+erased-before s form i at b more rest h few e f =
+    let one : b .block .0 + 1 - b .block .0 ≡ 1 = omega arith in
+    let n : i + 1 ≡ suc i = omega arith in
+    let o = le-leb (b .block .0) (b .block .0) (omega arith) in
+    rw (entry-ranged s form (i + 1) 2 at b rest h few f, one, n, entry-kind s form i 1 at b more h few e, entry-ranged s form i 1 at b more h few e, own-flash (b .flash), o)
+    (and-false (eqb (kindAt s (suc i)) 2))
 
 -- a body of one block
 one-body : (b : Named) → lastByte (b .flash) (b .block) .0 - firstByte (b .flash) (b .block) .0 + 1 ≡ blockSize (b .flash)
@@ -113,6 +139,7 @@ pub record Next (c : Memory) (s : List ℕ) (i at : ℕ) (b : Named) (bs : List 
   pub write : entryVerdict small s (i + 1) ≡ Accepted
   pub verify : entryVerdict small s (i + 1 + 1) ≡ Accepted
   pub three : Three s i b (bodyOf c b)
+  pub once : (writesAgain s i ≡ false) × (writesAgain s (i + 1) ≡ false) × (writesAgain s (i + 1 + 1) ≡ false)
   pub later : Ahead c s (i + 1 + 1 + 1) (at + blockSize (b .flash) + blockSize (b .flash)) bs
 
 -- twelve bytes on
@@ -176,6 +203,11 @@ module _ (c : Memory) (fit : Fit small c) (s : List ℕ) (form : formTwo s ≡ f
           writes = w .0;
           compares = v .0;
         };
+        once = (
+          not-again s form i 1 at b _ here (omega arith) t1 (λ z. omega (arith, z)),
+          erased-before s form i at b _ _ here (omega arith) t1 t2,
+          not-again s form (i + 1 + 1) 3 (at + size) b _ here (omega arith) t3 (λ z. omega (arith, z)),
+        );
         later = record {
           more = a .more;
           table = rw (← twice) t4;
@@ -210,6 +242,16 @@ module _ (c : Memory) (fit : Fit small c) (s : List ℕ) (form : formTwo s ≡ f
             ∙ r .0,
         r .1,
       )
+
+  -- no step writes a block that stands written
+  none-again : (bs : List Named) (i at : ℕ) → Ahead c s i at bs → anyFrom (writesAgain s) i (3 * length bs) ≡ false
+  unfolding anyFrom
+  none-again [] i at a = refl
+  none-again (b ∷ bs) i at a =
+      let n = next i at b bs a in
+      let k : 3 * length (b ∷ bs) ≡ suc (suc (suc (3 * length bs))) = omega arith in
+      let r = none-again bs (i + 1 + 1 + 1) (at + blockSize (b .flash) + blockSize (b .flash)) (n .later) in
+      ap (anyFrom (writesAgain s) i) k ∙ rw (n .once .0, n .once .1, n .once .2, r)
 
 -- ---- the whole sheet ----
 
@@ -262,5 +304,6 @@ module _ (c : Memory) (fit : Fit small c) (steps : stepsOf c ≤ 64) (few : leng
       let head =
       head-allowed s (let q = a .low in omega (arith, two)) (omega (arith, few, most-one s form-one)) (let k = steps-counted in omega arith) (rw form-one)
       (rw (two, steps-counted) (a .low)) in
+      let once = ap (anyFrom (writesAgain s) 0) (sym n) ∙ none-again c fit s form-one few ns 0 (2 + 12 * stepsOf c) a in
       let entries : entriesVerdict small s 0 (count s) ≡ Accepted = ap (entriesVerdict small s 0) (sym n) ∙ g .0 in
-      room-allowed small s room refl (sheet-allowed s head (rw own entries) (rw (eq-eqb _ _ (g .1)))) (rw own) r
+      room-allowed small s room refl (sheet-allowed s head (rw own entries) (rw (eq-eqb _ _ (g .1))) once) (rw own) r

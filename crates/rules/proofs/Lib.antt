@@ -4,4 +4,5 @@ pub mod First
 pub mod OptionBits
 pub mod Rows
 pub mod Sheet
+pub mod WritesTwice
 pub mod Trials

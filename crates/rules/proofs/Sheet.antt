@@ -1,4 +1,4 @@
--- A sheet is accepted precisely when none of the rules D0, J1 to J12 and J14 is broken. Assumes nothing.
+-- A sheet is accepted precisely when none of the rules D0 and J1 to J14 is broken. Assumes nothing.
 use mathlib.Core.Path.{_≡_, refl, sym, ap, _∙_}
 use mathlib.Core.Bool.{Bool, true, false, cond, not, _&&_}
 use mathlib.Core.List.{List}
@@ -14,7 +14,7 @@ use Rattle.rules.specs.declared.Verdict.the-variants.{Accepted, Refused}
 use Rattle.rules.specs.First.{andThen, first}
 use Rattle.rules.proofs.Choices.{both as both-true}
 use Rattle.rules.specs.Chip.{known, sameCounts}
-use Rattle.rules.specs.Sheet.{against, count, J1, J2, J3, J4, J5, J6, J7, J8, J9, J10, J11, J12, J14, headVerdict, entryVerdict, entriesVerdict, sheetVerdict, verdict}
+use Rattle.rules.specs.Sheet.{against, count, J1, J2, J3, J4, J5, J6, J7, J8, J9, J10, J11, J12, J13, J14, headVerdict, entryVerdict, entriesVerdict, sheetVerdict, verdict}
 
 -- no rule of an entry is broken
 pub record EntryAllowed (chip : Chip) (s : List ℕ) (i : ℕ) : Type 0 where
@@ -33,6 +33,7 @@ pub record SheetAllowed (s : List ℕ) : Type 0 where
   pub j3 : J3 s ≡ false
   pub entries : (i : ℕ) → i < count s → EntryAllowed (against s) s i
   pub j9 : J9 s ≡ false
+  pub j13 : J13 s ≡ false
 
 -- the chip is known, it is the sheet's, and the room for its sums is there
 pub record Allowed (chip : Chip) (s : List ℕ) (room : ℕ) : Type 0 where
@@ -75,7 +76,7 @@ unfolding entryVerdict first
 entry-accepted chip s i a = rw (a .j4, a .j5, a .j6, a .j12, a .j7, a .j8)
 
 -- the entries from i on
-entries-allowed : (chip : Chip) (s : List ℕ) (i left : ℕ)
+pub entries-allowed : (chip : Chip) (s : List ℕ) (i left : ℕ)
     → entriesVerdict chip s i left ≡ Accepted
     → (k : ℕ) → i ≤ k → k < i + left → EntryAllowed chip s k
 unfolding entriesVerdict
@@ -109,13 +110,15 @@ module _ (s : List ℕ) where
       let b = unbroken (J2 s) _ _ (a .1) in
       let d = unbroken (J11 s) _ _ (b .1) in
       let c = unbroken (J3 s) _ _ (d .1) in
+      let f = unbroken (J9 s) _ _ (t .1) in
       record {
         j1 = a .0;
         j2 = b .0;
         j11 = d .0;
         j3 = c .0;
         entries = λ i l. entries-allowed (against s) s 0 (count s) (t .0) i (omega arith) (omega arith);
-        j9 = unbroken (J9 s) _ _ (t .1) .0;
+        j9 = f .0;
+        j13 = unbroken (J13 s) _ _ (f .1) .0;
       }
 
   pub allowed-sheet : SheetAllowed s → sheetVerdict s ≡ Accepted
@@ -123,7 +126,7 @@ module _ (s : List ℕ) where
   allowed-sheet a =
       let l : entriesVerdict (against s) s 0 (count s) ≡ Accepted =
       entries-accepted (against s) s 0 (count s) (λ k _ b. a .entries k (omega arith)) in
-      rw (a .j1, a .j2, a .j11, a .j3, l, a .j9)
+      rw (a .j1, a .j2, a .j11, a .j3, l, a .j9, a .j13)
 
 -- THE LAW
 module _ (chip : Chip) (s : List ℕ) (room : ℕ) where

@@ -12,6 +12,7 @@ use Rattle.rules.specs.BadFrames.{badFrames}
 use Rattle.rules.specs.HexTexts.{makes, allMake, pairsOf, recordOf, oneEach, hexTexts, hexBlocks}
 use Rattle.rules.specs.WholeFrames.{hands, allHand, wholeFrames}
 use Rattle.rules.specs.Chips.{chipLengths, chipSessions, chipSheets}
+use Rattle.rules.specs.Twice.{entriesLaid, bodiesLaid, twiceSheets, oncePlays}
 use Rattle.rules.specs.Forms.{formSheets, formPlays, formCalls, moves, allMove, formMoves}
 
 -- THE STARRED TRIALS, 1 to 12
@@ -70,8 +71,17 @@ unfolding everything calls allCall formCalls
 form-calls = refl
 
 pub form-moves : allMove formMoves ≡ true
-unfolding everything moves allMove formMoves
+unfolding everything moves allMove entriesLaid bodiesLaid formMoves
 form-moves = refl
+
+-- M-107: sheets that write a page twice, and sheets that do not
+pub twice-sheets : allPlay twiceSheets ≡ true
+unfolding everything plays allPlay entriesLaid bodiesLaid twiceSheets
+twice-sheets = refl
+
+pub once-plays : allPlay oncePlays ≡ true
+unfolding everything plays allPlay entriesLaid bodiesLaid oncePlays
+once-plays = refl
 
 -- M-100: Blank Check, and the notes
 pub blank-checks : allHold blankChecks ≡ true
@@ -122,6 +132,12 @@ chip-sessions-say = all-held chipSessions chip-sessions
 
 pub chip-sheets-say : All Played chipSheets
 chip-sheets-say = all-played chipSheets chip-sheets
+
+pub twice-say : All Played twiceSheets
+twice-say = all-played twiceSheets twice-sheets
+
+pub once-say : All Played oncePlays
+once-say = all-played oncePlays once-plays
 
 pub blank-checks-say : All Held blankChecks
 blank-checks-say = all-held blankChecks blank-checks

@@ -134,6 +134,12 @@ identSize = 10
 
 -- ---- the two flashes ----
 
+unfoldable pub sameFlash : Flash → Flash → Bool
+sameFlash Code Code = true
+sameFlash Code Data = false
+sameFlash Data Code = false
+sameFlash Data Data = true
+
 pub record Memory : Type 0 where
   pub code : List ℕ
   pub «data» : List ℕ

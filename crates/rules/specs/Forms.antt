@@ -15,6 +15,7 @@ use Rattle.rules.specs.Options.{freshOptions}
 use Rattle.rules.specs.Move.{Moving, movedNumber, moveUp, moveDown}
 use Rattle.rules.specs.Player.{player, newPlayer, well}
 use Rattle.rules.specs.Rows.{sameNumber, plain, J, P, L, Play, refusedBy, noSums, unreached, Calling, blankFlash, ack, flags, filled, one, pair, paged, entry}
+use Rattle.rules.specs.Twice.{formOne, formTwo, write}
 
 -- ---- what rows are made of ----
 
@@ -77,6 +78,8 @@ formSheets =
     ∷ refusedBy small (largeBlank 0x01) (J 6)
     ∷ refusedBy large (largeBlank 0x01) (J 6)
     ∷ refusedBy small (largeBlank 0x02) (J 14)
+    -- a lock between two writes to one page (M-107)
+    ∷ refusedBy small (sheet 3 (entry 2 0x10 0x10 42 ++ lock 0xFF 0xFF 298 ++ entry 2 0x10 0x10 298 ++ filled 0xA5 ++ filled 0x5A)) (J 13)
     -- form 1 is for chip 1; J14 before J10, J9 before J14
     ∷ refusedBy large fiveErases (J 14)
     ∷ refusedBy small fiveErases (J 10)
@@ -289,6 +292,10 @@ formMoves =
     ∷ up (0x00 ∷ []) 0 (J 1) []
     ∷ down (head 0x03 0x00 0) 0 (J 11) []
     ∷ down (sheet 2 (lock 0xFF 0xFB 30 ++ entry 1 0x10 0x10 30)) 0 (J 12) []
+    -- two writes to one page (M-107): before J15 and J16 too
+    ∷ up (formOne 2 (write 0x10 0xA5 ++ write 0x10 0x5A)) 0 (J 13) []
+    ∷ down (formOne 2 (write 0x10 0xA5 ++ write 0x10 0x5A)) 0 (J 13) []
+    ∷ down (formTwo 1 2 (write 0x10 0xA5 ++ write 0x10 0x5A)) 600 (J 13) []
     -- the empty sheet
     ∷ up (0x00 ∷ 0x00 ∷ []) 8 (plain 6) (sheet 0 [])
     ∷ down (sheet 0 []) 8 (plain 2) (0x00 ∷ 0x00 ∷ [])

@@ -25,4 +25,5 @@ pub mod Blank
 pub mod BadFrames
 pub mod HexTexts
 pub mod WholeFrames
+pub mod Twice
 pub mod Forms

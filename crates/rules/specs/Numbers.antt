@@ -3,7 +3,7 @@ use Prim.Native.Nat.{ℕ}
 use mathlib.Core.List.{List, [], _∷_}
 use Rattle.rules.specs.declared.numbers.Number.{Number}
 use Rattle.rules.specs.declared.Refusal.{Refusal}
-use Rattle.rules.specs.declared.Refusal.the-variants.{D0, D1, D2, D3, E1, J1, J2, J3, J4, J5, J6, J7, J8, J9, J10, J11, J12, J14, J15, J16, P1, P2}
+use Rattle.rules.specs.declared.Refusal.the-variants.{D0, D1, D2, D3, E1, J1, J2, J3, J4, J5, J6, J7, J8, J9, J10, J11, J12, J13, J14, J15, J16, P1, P2}
 use Rattle.rules.specs.declared.Call.{Call}
 use Rattle.rules.specs.declared.Call.the-variants as call
 use Rattle.rules.specs.declared.Verdict.{Verdict}
@@ -22,7 +22,7 @@ use Rattle.rules.specs.declared.Kind.the-variants.{Erase, Write, Verify,
 abbrev number : ℕ → ℕ → Number
 number l n = record { letter = l; number = n }
 
--- Status bytes (D), The job sheet (J, P); 02, M-109 (E) and M-106 (J11 to J16)
+-- Status bytes (D), The job sheet (J, P); 02, M-109 (E), M-106 (J11 to J16) and M-107 (J13)
 abbrev pub refusalNumber : Refusal → Number
 refusalNumber D0 = number 0x44 0
 refusalNumber D1 = number 0x44 1
@@ -41,6 +41,7 @@ refusalNumber J9 = number 0x4A 9
 refusalNumber J10 = number 0x4A 10
 refusalNumber J11 = number 0x4A 11
 refusalNumber J12 = number 0x4A 12
+refusalNumber J13 = number 0x4A 13
 refusalNumber J14 = number 0x4A 14
 refusalNumber J15 = number 0x4A 15
 refusalNumber J16 = number 0x4A 16

@@ -1,11 +1,12 @@
--- 01, The job sheet, and 02, M-106, its form 2: what stands in it, when it is refused and by which number, and the steps of an accepted one.
+-- 01, The job sheet, and 02, M-106 and M-107: what stands in it, when it is refused and by which number, and the steps of an accepted one.
 -- Assumes nothing.
 use Prim.Native.Nat.{ℕ, zero, suc, _+_, _-_, _*_, _/_, _%_}
-use mathlib.Core.Bool.{Bool, cond, not, _&&_, _||_}
+use mathlib.Core.Bool.{Bool, true, false, cond, not, _&&_, _||_}
 use mathlib.Core.List.{List, [], _∷_}
 use lib.Dec.{ltb, leb, eqb}
 use lib.ListN.{length, take, drop}
 use Rattle.rules.specs.declared.Chip.{Chip}
+use Rattle.rules.specs.declared.Flash.{Flash}
 use Rattle.rules.specs.declared.Flash.the-variants.{Code}
 use Rattle.rules.specs.declared.Address.{Address}
 use Rattle.rules.specs.declared.Range.{Range}
@@ -18,7 +19,7 @@ use Rattle.rules.specs.declared.Kind.the-variants.{Erase, Write, Verify,
 use Rattle.rules.specs.declared.Flags.{Flags}
 use Rattle.rules.specs.declared.Step.{Step}
 use Rattle.rules.specs.First.{refuse, firstBroken, andThen}
-use Rattle.rules.specs.Chip.{byteAt, wordAt, addressAt, small, large, sameCounts, known, block, blockSize, blocksFrom, pagesFrom, pageSize, range, invalid}
+use Rattle.rules.specs.Chip.{byteAt, wordAt, addressAt, small, large, sameCounts, known, sameFlash, block, blockSize, blocksFrom, pagesFrom, pageSize, range, invalid}
 use Rattle.rules.specs.Options.{bit}
 
 -- ---- the two forms (02, M-106) ----
@@ -173,6 +174,45 @@ J8 s i = ltb (length s) (bodyEnd s i)
 abbrev pub J9 : List ℕ → Bool
 J9 s = not (eqb (length s) (offsetDue s (count s)))
 
+-- ---- two writes to one page (02, M-107) ----
+
+-- ranges are whole blocks, so a step covers a page exactly where it covers that page's block
+abbrev pub covers : Range → Flash → ℕ → Bool
+covers (Blocks g first last) f b = sameFlash g f && leb (first .0) b && leb b (last .0)
+covers Invalid f b = false
+
+abbrev pub writes : List ℕ → ℕ → Flash → ℕ → Bool
+writes s i f b = eqb (kindAt s i) 2 && covers (rangeAt (against s) s i) f b
+
+abbrev pub erases : List ℕ → ℕ → Flash → ℕ → Bool
+erases s i f b = eqb (kindAt s i) 1 && covers (rangeAt (against s) s i) f b
+
+-- looking back from step i: the last step before it that writes or erases the block writes it
+unfoldable pub written : List ℕ → Flash → ℕ → ℕ → Bool
+written s f b zero = false
+written s f b (suc i) =
+    let earlier = written s f b i in cond (writes s i f b) true (cond (erases s i f b) false earlier)
+
+-- p is so of one number at least, from n on, of so many
+unfoldable pub anyFrom : (ℕ → Bool) → ℕ → ℕ → Bool
+anyFrom p n zero = false
+anyFrom p n (suc left) = let later = anyFrom p (n + 1) left in p n || later
+
+-- looking back from step i, some block of the range stands written
+abbrev pub anyWritten : List ℕ → ℕ → Range → Bool
+anyWritten s i (Blocks f first last) = anyFrom (λ b. written s f b i) (first .0) (blocksFrom first last)
+anyWritten s i Invalid = false
+
+-- step i writes such a block
+abbrev pub writesAgain : List ℕ → ℕ → Bool
+writesAgain s i = eqb (kindAt s i) 2 && anyWritten s i (rangeAt (against s) s i)
+
+-- "two write steps cover the same page, with no erase step of that page's block between them .., even if the first body was all FFh"
+abbrev pub J13 : List ℕ → Bool
+J13 s = anyFrom (writesAgain s) 0 (count s)
+
+-- ---- the chip and the room ----
+
 -- 02, M-106: "J14, just before J10, when the chip to be played to is another than the sheet's"
 abbrev pub J14 : Chip → List ℕ → Bool
 J14 chip s = not (sameCounts chip (against s))
@@ -203,11 +243,11 @@ entriesVerdict chip s i zero = Accepted
 entriesVerdict chip s i (suc left) =
     let later = entriesVerdict chip s (i + 1) left in andThen (entryVerdict chip s i) later
 
--- the sheet's own rules, J1 to J9, J11 and J12, judged against the chip that it names
+-- the sheet's own rules, J1 to J9 and J11 to J13, judged against the chip that it names
 unfoldable pub sheetVerdict : List ℕ → Verdict
 sheetVerdict s =
     let entries = entriesVerdict (against s) s 0 (count s) in
-    let later = andThen entries (firstBroken (refuse r.J9 (J9 s) ∷ [])) in
+    let later = andThen entries (firstBroken (refuse r.J9 (J9 s) ∷ refuse r.J13 (J13 s) ∷ [])) in
     andThen (headVerdict s) later
 
 -- THE VERDICT, of a sheet for a chip and the room in the list for sums: D0 "before every J" (02, M-105), the sheet's own rules, J14, then J10

@@ -147,6 +147,7 @@ pub enum Refusal {
     J10,
     J11,
     J12,
+    J13,
     J14,
     J15,
     J16,

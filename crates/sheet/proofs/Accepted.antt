@@ -22,6 +22,7 @@ use Rattle.rules.specs.Chip.{small, large, block, blocks, blocksFrom, blockSize
 use Rattle.rules.specs.Sheet.{formTwo, chipNumber, two, one, against, headSize, count, tableEnd, mostBytes, lastKind, kindAt, sadAt, eadAt, flagsAt, isLock, filled, clears, isLast, offsetAt, offsetDue, rangeAt, J6, J12, bodyLength, bodyEnd, verdict, kindOf, stepOf, stepAt, stepBlocks, stepPages, bodyPage}
 use Rattle.rules.specs.Numbers.{kindNumber}
 use Rattle.rules.proofs.Sheet.{EntryAllowed, sheet-accepted, accepted-allowed, chip-named}
+use Rattle.rules.proofs.WritesTwice.{Twice, twice-J13}
 use Rattle.rules.proofs.Choices.{both, neither}
 use Rattle.sheet.specs.declared.Reading.the-variants.{Is}
 use Rattle.sheet.specs.Reading.{readingAt}
@@ -184,6 +185,10 @@ module _ (chip : Chip) (s : List ℕ) (room : ℕ) (ok : verdict chip s room ≡
         table = ltb-false (length s) (tableEnd s) (a .sheet .j3);
         end = eqb-true (length s) (offsetDue s (count s)) (not-false (eqb (length s) (offsetDue s (count s))) (a .sheet .j9));
       }
+
+  -- no two of its write steps cover one page, with no erase of that page's block between them
+  pub writes-once : Twice s → ⊥
+  writes-once t = false≢true (sym (accepted-allowed chip s room ok .sheet .j13) ∙ twice-J13 s t)
 
   -- it is judged against the chip that it names, and that is the chip it is for
   pub sound : (i : ℕ) → i < count s → Sound chip s i (stepAt chip s i)

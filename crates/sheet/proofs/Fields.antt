@@ -24,7 +24,7 @@ few-steps s bytes = let at = form s .head - 2 in omega (arith, bytes at, bytes (
 
 -- ---- what is cut from a place on ----
 
-from : (n : ℕ) (s : List ℕ) → take (length s - n) (drop n s) ≡ drop n s
+pub from : (n : ℕ) (s : List ℕ) → take (length s - n) (drop n s) ≡ drop n s
 from n s = take-all (length s - n) (drop n s) (rw length-drop (omega arith))
 
 pub length-from : (n : ℕ) (s : List ℕ) → length (take (length s - n) (drop n s)) ≡ length s - n

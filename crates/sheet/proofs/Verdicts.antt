@@ -5,7 +5,7 @@ use mathlib.Core.List.{List}
 use Prim.Native.Nat.{ℕ, _<_, _≤_}
 use lib.Dec.{ltb, leb}
 use lib.ListN.{length}
-use borrow.Author.Tests.{lt-ltb, le-ltb, le-leb, lt-leb, eq-eqb, ne-eqb}
+use borrow.Author.Tests.{lt-ltb, le-ltb, ltb-false, le-leb, lt-leb, eq-eqb, ne-eqb}
 use Rattle.rules.specs.declared.Chip.{Chip}
 use Rattle.rules.specs.declared.Refusal.{Refusal}
 use Rattle.rules.specs.declared.Refusal.the-variants as r
@@ -13,7 +13,8 @@ use Rattle.rules.specs.declared.Verdict.the-variants.{Accepted, Refused}
 use Rattle.rules.specs.Chip.{known}
 use Rattle.rules.specs.First.{first}
 use Rattle.rules.proofs.Choices.{or-true, and-false}
-use Rattle.rules.specs.Sheet.{against, headSize, count, tableEnd, mostBytes, lastKind, kindAt, zeroAt, offsetAt, offsetDue, bodyEnd, J1, J4, J6, J9, J11, J12, J14, headVerdict, entryVerdict, entriesVerdict, sheetVerdict, verdict, stepAt}
+use Rattle.rules.proofs.Sheet.{unbroken}
+use Rattle.rules.specs.Sheet.{against, headSize, count, tableEnd, mostBytes, lastKind, kindAt, zeroAt, offsetAt, offsetDue, bodyEnd, J1, J2, J3, J4, J6, J9, J11, J12, J13, J14, headVerdict, entryVerdict, entriesVerdict, sheetVerdict, verdict, stepAt}
 use Rattle.sheet.specs.declared.Reading.the-variants.{Is, NoStep}
 use Rattle.sheet.specs.Reading.{readingAt}
 
@@ -51,6 +52,15 @@ module _ (s : List ℕ) where
         unfolding headVerdict first
         head-allowed h =
             rw (size-kept, le-ltb 64 (count s) few, named, le-ltb (length s) (tableEnd s) h)
+
+-- an accepted head says that the table is there
+pub table-there : (s : List ℕ) → headVerdict s ≡ Accepted → tableEnd s ≤ length s
+unfolding headVerdict first
+table-there s e =
+    let a = unbroken (J1 s) _ _ e in
+    let b = unbroken (J2 s) _ _ (a .1) in
+    let d = unbroken (J11 s) _ _ (b .1) in
+    ltb-false (length s) (tableEnd s) (unbroken (J3 s) _ _ (d .1) .0)
 
 -- ---- an entry ----
 
@@ -115,9 +125,14 @@ module _ (s : List ℕ) where
       unfolding sheetVerdict first
       bytes-left h = rw (head, entries, h)
 
-      pub sheet-allowed : J9 s ≡ false → sheetVerdict s ≡ Accepted
-      unfolding sheetVerdict first
-      sheet-allowed h = rw (head, entries, h)
+      module _ (end : J9 s ≡ false) where
+        pub written-again : J13 s ≡ true → sheetVerdict s ≡ Refused r.J13
+        unfolding sheetVerdict first
+        written-again h = rw (head, entries, end, h)
+
+        pub sheet-allowed : J13 s ≡ false → sheetVerdict s ≡ Accepted
+        unfolding sheetVerdict first
+        sheet-allowed h = rw (head, entries, end, h)
 
 -- ---- the chip to be played to, and the room for its sums ----
 

@@ -1,4 +1,4 @@
-// The rules: D0, J1 to J12 and J14 in the order of the documents, each with its own return. No body is read.
+// The rules: D0 and J1 to J14 in the order of the documents, each with its own return. No body is read.
 use crate::table::Entry;
 use crate::table::against;
 use crate::table::body_end;
@@ -9,6 +9,7 @@ use crate::table::form_two;
 use crate::table::head_size;
 use crate::table::offset_due;
 use crate::table::table_end;
+use crate::twice::written_twice;
 use chip_finder::is_invalid;
 use chip_finder::is_known;
 use chip_finder::range;
@@ -198,7 +199,7 @@ fn left_over(sheet: &[u8]) -> bool
     sheet.len() != end
 }
 
-// The sheet's own rules, J1 to J9, J11 and J12, judged against the chip that it names.
+// The sheet's own rules, J1 to J9 and J11 to J13, judged against the chip that it names.
 pub fn sheet_verdict(sheet: &[u8]) -> Verdict
     ensures { λ r. ⌜ r ≡ sheetVerdict (now (sheet .entry)) ⌝ }
 {
@@ -210,6 +211,9 @@ pub fn sheet_verdict(sheet: &[u8]) -> Verdict
     }
     if left_over(sheet) {
         return Verdict::Refused(Refusal::J9);
+    }
+    if written_twice(sheet) {
+        return Verdict::Refused(Refusal::J13);
     }
     Verdict::Accepted
 }

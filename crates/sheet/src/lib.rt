@@ -5,6 +5,7 @@ pub mod judge;
 pub mod read;
 pub mod steps;
 pub mod table;
+pub mod twice;
 
 // Step i of a sheet, or that there is none: the sheet is refused, or has no such step.
 pub enum Reading {

@@ -1,5 +1,5 @@
 -- A moved sheet keeps the rules that its sheet keeps. Assumes nothing.
-use mathlib.Core.Path.{_≡_, sym, ap, subst, _∙_}
+use mathlib.Core.Path.{_≡_, refl, sym, ap, subst, _∙_}
 use mathlib.Core.Bool.{false, not, _&&_}
 use mathlib.Core.List.{List}
 use Prim.Native.Nat.{ℕ, _+_, _-_, _<_, _≤_}
@@ -8,10 +8,11 @@ use lib.Dec.{eqb, ltb, leb}
 use lib.ListN.{length}
 use borrow.Author.Tests.{le-ltb, le-leb, leb-true, eq-eqb, ne-eqb, eqb-true, eqb-false, not-false}
 use Rattle.rules.specs.declared.Chip.{Chip}
-use Rattle.rules.specs.Sheet.{against, count, tableEnd, lastKind, kindAt, offsetAt, offsetDue, bodyEnd, J1, J11}
+use Rattle.rules.specs.Sheet.{against, count, tableEnd, lastKind, kindAt, offsetAt, offsetDue, rangeAt, bodyEnd, J1, J11}
 use Rattle.rules.specs.Move.{isNew}
 use Rattle.rules.proofs.Choices.{both, neither}
 use Rattle.rules.proofs.Sheet.{EntryAllowed, SheetAllowed}
+use Rattle.sheet_forms.proofs.SameWrites.{twice-same}
 use Rattle.sheet_forms.proofs.Shifted.{Shift, same, due, ends, table-there, at-due, ends-there, past}
 
 -- ---- kinds ----
@@ -70,4 +71,8 @@ module _ (to : ℕ → ℕ) (s u : List ℕ) (h : Shift to s u) (a : SheetAllowe
           j3 = le-ltb (length u) (tableEnd u) (omega (arith, h .table, h .size, rises (tableEnd s) (length s) (omega arith) t));
           entries = λ i l. subst (λ (c : Chip). EntryAllowed c u i) (sym chip) (entry-carried i (omega (arith, h .counted)));
           j9 = rw (eq-eqb (length u) (offsetDue u (count u)) d);
+          j13 =
+              twice-same s u (count s) (λ i l. same to s u h i l .kind)
+              (λ i l. ap (λ (c : Chip). rangeAt c u i) chip ∙ same to s u h i l .range (against s)) (h .counted) refl
+              ∙ a .j13;
         }

@@ -8,3 +8,4 @@ pub mod Means
 pub mod Back
 pub mod Outcomes
 pub mod Theorems
+pub mod SameWrites

@@ -7,7 +7,8 @@ use lib.ListN.{length, take, drop, length-drop}
 use borrow.Author.Tests.{ltb-false, eqb-true, not-false}
 use lib.Dec.{eqb}
 use Rattle.rules.specs.declared.Chip.{Chip}
-use Rattle.rules.specs.Sheet.{headSize, count, tableEnd, entryAt, kindAt, zeroAt, offsetAt, offsetDue, bodyLength, bodyEnd, J6, J12, isLast}
+use Rattle.rules.specs.Chip.{range}
+use Rattle.rules.specs.Sheet.{headSize, count, tableEnd, entryAt, kindAt, zeroAt, offsetAt, offsetDue, rangeAt, bodyLength, bodyEnd, J6, J12, isLast}
 use Rattle.rules.proofs.Sheet.{SheetAllowed}
 use Rattle.sheet.specs.declared.table.Entry.{Entry}
 use Rattle.sheet.specs.Entry.{entryIn, fieldsOf, lengthOf, pairWrong, lockWrong}
@@ -54,6 +55,7 @@ pub record Same (to : ℕ → ℕ) (s u : List ℕ) (i : ℕ) : Type 0 where
   pub kind : kindAt u i ≡ kindAt s i
   pub zero : zeroAt u i ≡ zeroAt s i
   pub pair : (chip : Chip) → J6 chip u i ≡ J6 chip s i
+  pub range : (chip : Chip) → rangeAt chip u i ≡ rangeAt chip s i
   pub lock : J12 u i ≡ J12 s i
   pub offset : offsetAt u i ≡ to (offsetAt s i)
   pub length : bodyLength u i ≡ bodyLength s i
@@ -69,6 +71,7 @@ module _ (to : ℕ → ℕ) (s u : List ℕ) (h : Shift to s u) where
         kind = sym (x .kind);
         zero = sym (x .zero);
         pair = λ chip. sym (x .pair chip);
+        range = λ chip. ap (λ (y : Entry). range chip (y .sad) (y .ead)) (h .entry i l);
         lock = sym (x .lock) ∙ ap (lockWrong e) last;
         offset = sym (x .offset);
         length = ap (λ (y : Entry). lengthOf (y .kind) (y .sad) (y .ead)) (h .entry i l);

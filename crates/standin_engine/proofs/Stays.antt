@@ -5,7 +5,7 @@ use native.Mathlib.Omega.{arith}
 use Rattle.rules.specs.declared.Call.{Call}
 use Rattle.rules.specs.declared.Call.the-variants.{Refused, Answer}
 use Rattle.rules.specs.declared.Refusal.{Refusal}
-use Rattle.rules.specs.declared.Refusal.the-variants.{D0, D1, D2, D3, E1, J1, J2, J3, J4, J5, J6, J7, J8, J9, J10, J11, J12, J14, J15, J16, P1, P2}
+use Rattle.rules.specs.declared.Refusal.the-variants.{D0, D1, D2, D3, E1, J1, J2, J3, J4, J5, J6, J7, J8, J9, J10, J11, J12, J13, J14, J15, J16, P1, P2}
 use Rattle.rules.specs.Numbers.{refusalNumber, callNumber}
 use Rattle.standin_engine.specs.Stands.{Stands}
 
@@ -32,6 +32,7 @@ letter J9 e = omega (arith, e)
 letter J10 e = omega (arith, e)
 letter J11 e = omega (arith, e)
 letter J12 e = omega (arith, e)
+letter J13 e = omega (arith, e)
 letter J14 e = omega (arith, e)
 letter J15 e = omega (arith, e)
 letter J16 e = omega (arith, e)

@@ -8,7 +8,7 @@ use lib.Dec.{ltb, eqb}
 use lib.ListN.{length, getD, length-append}
 use Rattle.rules.specs.declared.Chip.{Chip}
 use Rattle.rules.specs.declared.Refusal.{Refusal}
-use Rattle.rules.specs.declared.Refusal.the-variants.{D0, D1, D2, D3, E1, J1, J2, J3, J4, J5, J6, J7, J8, J9, J10, J11, J12, J14, J15, J16, P1, P2}
+use Rattle.rules.specs.declared.Refusal.the-variants.{D0, D1, D2, D3, E1, J1, J2, J3, J4, J5, J6, J7, J8, J9, J10, J11, J12, J13, J14, J15, J16, P1, P2}
 use Rattle.rules.specs.declared.Verdict.the-variants.{Accepted}
 use Rattle.rules.specs.declared.Kind.{Kind}
 use Rattle.rules.specs.declared.Kind.the-variants.{Erase, Write, Verify, Sum, Blank, Lock}
@@ -126,6 +126,7 @@ refused-fits J9 = omega arith
 refused-fits J10 = omega arith
 refused-fits J11 = omega arith
 refused-fits J12 = omega arith
+refused-fits J13 = omega arith
 refused-fits J14 = omega arith
 refused-fits J15 = omega arith
 refused-fits J16 = omega arith

@@ -27,7 +27,11 @@ pub fn file(mut random: Random) -> Vec<u8> {
         1 => Size { steps: 8, code_blocks: 4, body_bytes: 30_000 },
         _ => Size { steps: 6, code_blocks: 1, body_bytes: 1_300 },
     };
-    let mut plan = Plan::random(random, &flash, &options, size);
+    let mut plan = if random.chance(10) {
+        Plan::over_few_blocks(random, &flash, false)
+    } else {
+        Plan::random(random, &flash, &options, size)
+    };
     if random.chance(50) {
         // So that the way down is open as far as the kinds go.
         plan.steps.retain(|step| Kind::OF_FORM_1.contains(&step.kind));

@@ -2,12 +2,14 @@
 //! and their faults.
 
 use super::random::Random;
-use crate::chip::{Area, CONNECTION_ID, Flash, Model, PAGE, Span};
+use crate::chip::{Area, BLANK, CONNECTION_ID, Flash, Model, PAGE, Span};
 use crate::frames::address_bytes;
 use crate::lines::{byte_line, flash_line};
 use crate::meaning::meaning;
 use crate::options::{self, Options};
-use crate::sheet::{ENTRY_LENGTH, FORM_2_MARK, Form, Kind, Lock, MOST_STEPS, Sheet, Step};
+use crate::sheet::{
+    ENTRY_LENGTH, FORM_2_MARK, Form, Kind, Lock, MOST_STEPS, Sheet, Step, writes_a_page_twice,
+};
 use crate::status;
 
 /// One of the two chips.
@@ -193,6 +195,40 @@ pub fn random_span(random: &mut Random, model: Model, area: Area, most_blocks: u
     Span { area, start: first * length, length: count * length }
 }
 
+/// A block that is not blank and some before and behind it, up to the most that
+/// a flash allows; None if all are blank.
+fn span_around_dirt(
+    random: &mut Random,
+    flash: &Flash,
+    most: impl Fn(Area) -> usize,
+) -> Option<Span> {
+    let mut dirty = Vec::new();
+    for area in Area::BOTH {
+        for (index, block) in flash.area(area).chunks(area.block_length()).enumerate() {
+            if block.iter().any(|&byte| byte != BLANK) {
+                dirty.push((area, index));
+            }
+        }
+    }
+    if dirty.is_empty() {
+        return None;
+    }
+    let (area, block) = random.pick(&dirty);
+    let most = most(area).min(4);
+    let before = random.below(most).min(block);
+    let behind = random.below(most - before).min(flash.model().blocks(area) - 1 - block);
+    let length = area.block_length();
+    Some(Span { area, start: (block - before) * length, length: (before + 1 + behind) * length })
+}
+
+/// Some neighbouring blocks of a span.
+fn part_of(random: &mut Random, span: Span) -> Span {
+    let first = random.below(span.blocks());
+    let count = random.between(1, span.blocks() - first);
+    let length = span.area.block_length();
+    Span { start: span.start + first * length, length: count * length, ..span }
+}
+
 /// A pair of addresses that is not valid for a chip.
 pub fn bad_pair(random: &mut Random, model: Model) -> (u32, u32) {
     let past = |area: Area| area.first_address() + model.length(area) as u32;
@@ -310,15 +346,10 @@ pub struct Size {
 
 impl Plan {
     /// A plan made for a chip: mostly its steps do well, and verify bodies
-    /// match, up to some step.
+    /// match, up to some step. No page is written twice with no erase between.
     pub fn random(random: &mut Random, flash: &Flash, options: &Options, size: Size) -> Plan {
-        let model = flash.model();
-        let form = match model {
-            Model::SMALL if random.chance(50) => Form::One,
-            _ => Form::Two,
-        };
+        let mut plan = Plan::empty(random, flash.model());
         let (mut flash, mut options) = (flash.clone(), *options);
-        let mut plan = Plan { form, model, steps: Vec::new() };
         let mut body_bytes = 0;
         let wanted = if random.chance(4) { 0 } else { random.between(1, size.steps) };
         let tolerance = random.pick(&[5, 50, 100, 100]);
@@ -326,13 +357,16 @@ impl Plan {
             if plan.steps.len() == wanted {
                 break;
             }
-            let step = plan.random_step(random, &flash, size);
+            let mut step = plan.random_step(random, &flash, size);
+            if plan.would_write_twice(&step) {
+                // The erase due before it; the write may come next.
+                step = PlannedStep::random(random, Kind::Erase, step.span, &flash);
+            }
             if body_bytes + step.body.len() > size.body_bytes {
                 continue;
             }
             let (mut flash_after, mut options_after) = (flash.clone(), options);
-            let sheet = Sheet { form, model, steps: vec![step.as_step()] };
-            let outcome = meaning(&sheet, &mut flash_after, &mut options_after);
+            let outcome = meaning(&plan.of_step(&step), &mut flash_after, &mut options_after);
             if outcome.status != status::ACK && !random.chance(tolerance) {
                 continue;
             }
@@ -340,10 +374,68 @@ impl Plan {
             body_bytes += step.body.len();
             plan.steps.push(step);
         }
-        if form == Form::Two && random.chance(15) {
+        if plan.form == Form::Two && random.chance(15) {
             plan.shut(random);
         }
         plan
+    }
+
+    /// Many steps over a few neighbouring blocks. If not `clean`, a page may
+    /// be written twice with no erase between.
+    pub fn over_few_blocks(random: &mut Random, flash: &Flash, clean: bool) -> Plan {
+        let mut plan = Plan::empty(random, flash.model());
+        let mut flash = flash.clone();
+        let area = if random.chance(85) { Area::Data } else { Area::Code };
+        let all = random_span(random, plan.model, area, 3);
+        let most = if area == Area::Code { 5 } else { 16 };
+        let erase_percent = random.pick(&[0, 40, 80, 95]);
+        for _ in 0..random.between(2, most) {
+            let span = part_of(random, all);
+            let kind = match plan.form {
+                Form::Two if random.chance(10) => random.pick(&[Kind::Blank, Kind::Lock]),
+                _ => random.pick(&[
+                    Kind::Erase,
+                    Kind::Write,
+                    Kind::Write,
+                    Kind::Write,
+                    Kind::Verify,
+                    Kind::Sum,
+                ]),
+            };
+            let mut step = PlannedStep::random(random, kind, span, &flash);
+            if plan.would_write_twice(&step) && (clean || random.chance(erase_percent)) {
+                // Mostly of all that is written, or of a part: not enough.
+                let erased = if clean || random.chance(90) { span } else { part_of(random, span) };
+                let erase = PlannedStep::random(random, Kind::Erase, erased, &flash);
+                plan.steps.push(erase);
+                flash.part_mut(erased).fill(BLANK);
+            }
+            if step.kind == Kind::Lock {
+                // All the steps after it are wanted.
+                step.lock = Lock { sf1: 0xFF, sf2: 0xFF };
+            }
+            meaning(&plan.of_step(&step), &mut flash, &mut Options::FRESH.clone());
+            plan.steps.push(step);
+        }
+        plan
+    }
+
+    /// No step yet, for a chip, in a form that can name it.
+    fn empty(random: &mut Random, model: Model) -> Plan {
+        let form = match model {
+            Model::SMALL if random.chance(50) => Form::One,
+            _ => Form::Two,
+        };
+        Plan { form, model, steps: Vec::new() }
+    }
+
+    fn would_write_twice(&self, step: &PlannedStep) -> bool {
+        let steps: Vec<Step> = self.steps.iter().chain([step]).map(PlannedStep::as_step).collect();
+        writes_a_page_twice(&steps)
+    }
+
+    fn of_step<'a>(&self, step: &'a PlannedStep) -> Sheet<'a> {
+        Sheet { form: self.form, model: self.model, steps: vec![step.as_step()] }
     }
 
     /// Makes the last step a lock that clears IFPR.
@@ -360,17 +452,23 @@ impl Plan {
             Form::Two if random.chance(25) => random.pick(&[Blank, Lock]),
             _ => random.pick(&[Erase, Erase, Write, Write, Write, Verify, Verify, Sum, Sum]),
         };
-        let span = match self.steps.last() {
+        let most = |area: Area| match area {
+            Area::Code if kind.has_body() => size.code_blocks,
+            _ => 16,
+        };
+        let mut span = match self.steps.last() {
             Some(before) if random.chance(50) => before.span,
             _ => {
                 let area = random_area(random);
-                let most = match area {
-                    Area::Code if kind.has_body() => size.code_blocks,
-                    _ => 16,
-                };
-                random_span(random, self.model, area, most)
+                random_span(random, self.model, area, most(area))
             }
         };
+        if kind == Kind::Write
+            && random.chance(50)
+            && let Some(around) = span_around_dirt(random, flash, most)
+        {
+            span = around;
+        }
         PlannedStep::random(random, kind, span, flash)
     }
 
@@ -379,8 +477,41 @@ impl Plan {
         Sheet { form: self.form, model: self.model, steps }.bytes()
     }
 
+    /// Writes the blocks of a write step, or some of them, once more.
+    fn write_twice(&mut self, random: &mut Random) {
+        let writes: Vec<usize> =
+            (0..self.steps.len()).filter(|&index| self.steps[index].kind == Kind::Write).collect();
+        if writes.is_empty() || self.steps.len() == MOST_STEPS {
+            return;
+        }
+        let first = random.pick(&writes);
+        let mut step = self.steps[first].clone();
+        if random.chance(40) {
+            step.span = part_of(random, step.span);
+            step.body = random_body(random, step.span.length);
+        }
+        if random.chance(25) {
+            // Even if the first body was all FFh.
+            self.steps[first].body.fill(BLANK);
+        }
+        let at = random.between(first + 1, self.steps.len());
+        self.steps.insert(at, step);
+    }
+
     /// The plan's bytes with one or more faults in them.
     pub fn faulty_bytes(&self, random: &mut Random) -> Vec<u8> {
+        if random.chance(14) {
+            let mut plan = self.clone();
+            plan.write_twice(random);
+            let mut bytes = plan.bytes();
+            match random.below(10) {
+                // Bytes left over are found first.
+                0 | 1 => bytes.push(random.byte()),
+                2..5 => bytes = plan.faulty_bytes(random),
+                _ => {}
+            }
+            return bytes;
+        }
         let mut faults: Vec<Fault> = Vec::new();
         for _ in 0..random.pick(&[1, 1, 2, 2, 3]) {
             faults.push(match self.form {

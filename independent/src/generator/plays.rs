@@ -22,7 +22,7 @@ pub fn generate(seed: u64, count: u64) -> String {
         // The first play shows what is lent, and which chip is meant, when no
         // line says so.
         let model = if case == 0 { Model::SMALL } else { random_model(&mut random) };
-        let plan = random_plan(&mut random, model);
+        let plan = random_plan(&mut random, model, tape.has_room());
         let wrong_percent = random.pick(&[0, 4, 8, 12, 25]);
         let busy_percent = random.pick(&[0, 5, 12, 25]);
         Play { tape: &mut tape, random, plan, wrong_percent, busy_percent }.write(case == 0);
@@ -30,8 +30,16 @@ pub fn generate(seed: u64, count: u64) -> String {
     tape.text
 }
 
-fn random_plan(random: &mut Random, model: Model) -> Plan {
-    let (steps, body_bytes) = random.pick(&[(4, 800), (6, 1_300), (6, 1_300), (5, 2_600)]);
+/// Long ones come while there is room for them.
+fn random_plan(random: &mut Random, model: Model, long: bool) -> Plan {
+    if random.chance(6) && long {
+        return Plan::over_few_blocks(random, &Flash::blank(model), true);
+    }
+    let (steps, body_bytes) = match random.below(4) {
+        0 => (4, 800),
+        1 if long => (5, 2_600),
+        _ => (6, if long { 1_300 } else { 1_100 }),
+    };
     let size = Size { steps, code_blocks: 1, body_bytes };
     Plan::random(random, &Flash::blank(model), &Options::FRESH, size)
 }
@@ -175,6 +183,10 @@ impl Play<'_> {
             2 => {
                 let bytes = self.plan.faulty_bytes(&mut self.random);
                 self.put_sheet(&bytes);
+                if self.random.chance(30) {
+                    // The sheet is named before the list.
+                    self.tape.line("sums 0");
+                }
                 None
             }
             3 => {
@@ -198,7 +210,9 @@ impl Play<'_> {
         let step = self.tape.runner.player().map_or(0, |player| player.steps_finished());
         match self.random.below(12) {
             0 => plan.steps.truncate(self.random.between(step.saturating_sub(1), step + 1)),
-            1 => plan = random_plan(&mut self.random, self.plan.model),
+            1 => {
+                plan = random_plan(&mut self.random, self.plan.model, self.tape.has_room());
+            }
             2 => plan.steps.push(self.random_step(None)),
             // Another kind over the same blocks. Write and verify await the
             // same, and so do others, but they are not the same step.

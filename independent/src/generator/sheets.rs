@@ -129,9 +129,15 @@ impl Case<'_> {
             _ => Size { steps: 6, code_blocks: 1, body_bytes: 1_300 },
         };
         let chip = self.tape.runner.chip();
-        if self.random.chance(6) {
+        if self.random.chance(10) {
+            return Plan::over_few_blocks(&mut self.random, &chip.flash, false);
+        }
+        if self.random.chance(8) {
             // For any chip, often another than the one it is played to.
             let flash = Flash::blank(random_model(&mut self.random));
+            if self.random.chance(30) {
+                return Plan::over_few_blocks(&mut self.random, &flash, false);
+            }
             return Plan::random(&mut self.random, &flash, &Options::FRESH, size);
         }
         Plan::random(&mut self.random, &chip.flash, &chip.options, size)

@@ -75,10 +75,14 @@ returns-21 c = told _ _ (c .enum-told21 .given .1)
 returns-22 : tie.Need-returns-22
 returns-22 c = told _ _ (c .enum-told22 .given .1)
 
+returns-23 : tie.Need-returns-23
+returns-23 c = told _ _ (c .enum-told23 .given .1)
+
 pub letter-of-spec : {M : Type 1} → statement M
 letter-of-spec =
     tie.close
     (tie.spec
+    (λ c. search needs)
     (λ c. search needs)
     (λ c. search needs)
     (λ c. search needs)
@@ -122,4 +126,5 @@ letter-of-spec =
     returns-19
     returns-20
     returns-21
-    returns-22)
+    returns-22
+    returns-23)

@@ -1,8 +1,9 @@
--- `sheet::judge::sheet_verdict` meets its contract: the head, the entries and the end, each after the one before. Assumes nothing.
+-- `sheet::judge::sheet_verdict` meets its contract: the head, the entries, the end and the writes, each after the one before. Assumes nothing.
 use mathlib.Core.Path.{_≡_, sym, _∙_}
+use mathlib.Core.Bool.{false}
 use Rattle.rules.specs.declared.Verdict.the-variants.{Accepted}
-use Rattle.rules.specs.Sheet.{against, count, headVerdict, entriesVerdict}
-use Rattle.sheet.proofs.Verdicts.{head-refused, entries-refused, bytes-left, sheet-allowed}
+use Rattle.rules.specs.Sheet.{against, count, headVerdict, entriesVerdict, J9, J13}
+use Rattle.sheet.proofs.Verdicts.{table-there, head-refused, entries-refused, bytes-left, written-again, sheet-allowed}
 use borrow.Author.Needs.{needs}
 use Rattle.sheet.proofs.judge.sheet_verdict.Statement.{statement}
 use Rattle.sheet.proofs.judge.sheet_verdict.Tie as tie
@@ -43,15 +44,35 @@ returns-3 c =
     (bytes-left (a .sheet .now) (head-kept (x .before .before .before .before)) (entries-kept x)
     (sym (c .before .left-over .ensures) ∙ c .if1 .taken))
 
+-- no byte is left over
+end-kept : (c : tie.Else1) → J9 (c .before .before .before .before .before .before .before .before .before .before .args .sheet .now) ≡ false
+end-kept c = sym (c .before .left-over .ensures) ∙ c .if1 .left
+
+-- two writes to one page, of a sheet whose head and entries were accepted
+twice : (c : tie.After-written-twice) → c .written-twice .result ≡ J13 (c .before .before .before .before .before .before .before .before .before .before .before .args .sheet .now)
+twice c =
+    let x = c .before .before .before in
+    c .written-twice .ensures (table-there _ (head-kept (x .before .before .before .before))) (entries-kept x)
+
 returns-4 : tie.Need-returns-4
 returns-4 c =
-    let x = c .before .before in
+    let w = c .before in
+    let x = w .before .before .before in
     let a = x .before .before .before .before .before .before .before .before .args in
     sym
-    (sheet-allowed (a .sheet .now) (head-kept (x .before .before .before .before)) (entries-kept x)
-    (sym (c .before .left-over .ensures) ∙ c .if1 .left))
+    (written-again (a .sheet .now) (head-kept (x .before .before .before .before)) (entries-kept x) (end-kept (w .before))
+    (sym (twice w) ∙ c .if2 .taken))
+
+returns-5 : tie.Need-returns-5
+returns-5 c =
+    let w = c .before in
+    let x = w .before .before .before in
+    let a = x .before .before .before .before .before .before .before .before .args in
+    sym
+    (sheet-allowed (a .sheet .now) (head-kept (x .before .before .before .before)) (entries-kept x) (end-kept (w .before))
+    (sym (twice w) ∙ c .if2 .left))
 
 pub sheet-verdict-spec : {M : Type 1} → statement M
 sheet-verdict-spec =
     tie.close
-    (tie.spec (λ c κs. search needs) (λ c. search needs) returns (λ c. search needs) (λ c κs. search needs) (λ c κs. search needs) (λ c. search needs) returns-2 (λ c. search needs) (λ c κs. search needs) returns-3 returns-4)
+    (tie.spec (λ c κs. search needs) (λ c. search needs) returns (λ c. search needs) (λ c κs. search needs) (λ c κs. search needs) (λ c. search needs) returns-2 (λ c. search needs) (λ c κs. search needs) returns-3 (λ c κs. search needs) returns-4 returns-5)

@@ -1,0 +1,102 @@
+// J13: a step writes a block that stands written (02, M-107). The steps are gone through once, with two rows of marks, one byte a block. It is asked of a
+// sheet whose entries were accepted, so their pairs are not judged again, and no body is read.
+use crate::table::count;
+use crate::table::head_size;
+use chip_finder::blocks_held;
+use octets::numbers::address_of;
+use rules::Block;
+use rules::Flash;
+use rules::Range;
+use sheet_marks::FREE;
+use sheet_marks::clear_marks;
+use sheet_marks::put_marks;
+ghost use mathlib.Core.Path.{_≡_};
+ghost use Prim.Native.Nat.{_+_, _*_, _≤_};
+ghost use lib.ListN.{length, replicate};
+ghost use Rattle.rules.specs.declared.Verdict.the-variants.{Accepted};
+ghost use Rattle.rules.specs.Sheet.{against, headSize, count, tableEnd, entriesVerdict, J13};
+ghost use Rattle.chip_finder.specs.LentFlashes.{memory};
+ghost use Rattle.sheet_marks.specs.Marks.{Marked};
+ghost use Rattle.sheet.specs.Entry.{fieldsOf};
+ghost use Rattle.sheet.specs.Taken.{rowTaken, Taken, stepTaken, entryTaken};
+
+// The blocks of the larger chip: a row has a mark for each.
+const CODE_BLOCKS: usize = 64;
+
+const DATA_BLOCKS: usize = 32;
+
+// The bytes of an entry.
+const ENTRY_SIZE: usize = 12;
+
+// The kinds by their numbers: a write is the last that counts here.
+const ERASE: u8 = 1;
+
+const WRITE: u8 = 2;
+
+// An erase or a write over the marks of its flash; whether a write meets a block that stands written.
+fn row_taken(kind: u8, first: Block, last: Block, row: &mut [u8]) -> bool
+    ensures { λ r. ⌜ _≡_ {A = Marked} (record { again = r; row = now (row .exit) }) (rowTaken kind first last (now (row .entry))) ⌝ }
+{
+    if kind == ERASE {
+        clear_marks(row, first, last);
+        return false;
+    }
+    put_marks(row, first, last)
+}
+
+// Over the marks of both flashes.
+fn step_taken(kind: u8, blocks: Range, code: &mut [u8], data: &mut [u8]) -> bool
+    ensures { λ r. ⌜ _≡_ {A = Taken} (record { again = r; rows = memory (now (code .exit)) (now («data» .exit)) }) (stepTaken kind blocks (memory (now (code .entry)) (now («data» .entry)))) ⌝ }
+{
+    match blocks {
+        Range::Blocks(f, first, last) => match f {
+            Flash::Code => row_taken(kind, first, last, code),
+            Flash::Data => row_taken(kind, first, last, data),
+        },
+        Range::Invalid => false,
+    }
+}
+
+// Of an entry as it stands in the sheet; verify, sum, blank check and lock do not count.
+fn entry_taken(e: &[u8], code: &mut [u8], data: &mut [u8]) -> bool
+    requires { ⌜ 12 ≤ length (now e) ⌝ }
+    ensures { λ r. ⌜ _≡_ {A = Taken} (record { again = r; rows = memory (now (code .exit)) (now («data» .exit)) }) (entryTaken (fieldsOf (now (e .entry))) (memory (now (code .entry)) (now («data» .entry)))) ⌝ }
+{
+    let kind = e[0];
+    if WRITE < kind {
+        return false;
+    }
+    let sad = address_of(e[1], e[2], e[3]);
+    let ead = address_of(e[4], e[5], e[6]);
+    step_taken(kind, blocks_held(sad, ead), code, data)
+}
+
+// The entries one after another, up to the first that writes a block again.
+fn any_taken(sheet: &[u8], head: usize, n: usize, code: &mut [u8], data: &mut [u8]) -> bool
+    requires { ⌜ (head + 12 * n ≤ length (now sheet)) × (n ≤ 65536) × (head ≤ 12) ⌝ }
+    ensures { λ r. ⌜ (head ≡ headSize (now (sheet .entry)) → n ≡ count (now (sheet .entry)) → entriesVerdict (against (now (sheet .entry))) (now (sheet .entry)) 0 (count (now (sheet .entry))) ≡ Accepted → now (code .entry) ≡ replicate 64 0 → now («data» .entry) ≡ replicate 32 0 → r ≡ J13 (now (sheet .entry))) ⌝ }
+{
+    let mut i = 0;
+    while i < n {
+        let at = head + ENTRY_SIZE * i;
+        if entry_taken(&sheet[at..], code, data) {
+            return true;
+        }
+        i += 1;
+    }
+    false
+}
+
+// J13, of a sheet whose head and entries were accepted.
+pub(crate) fn written_twice(sheet: &[u8]) -> bool
+    ensures { λ r. ⌜ (tableEnd (now (sheet .entry)) ≤ length (now (sheet .entry)) → entriesVerdict (against (now (sheet .entry))) (now (sheet .entry)) 0 (count (now (sheet .entry))) ≡ Accepted → r ≡ J13 (now (sheet .entry))) ⌝ }
+{
+    let head = head_size(sheet);
+    let n = count(sheet);
+    if sheet.len() < head + ENTRY_SIZE * n {
+        return false;
+    }
+    let mut code = [FREE; CODE_BLOCKS];
+    let mut data = [FREE; DATA_BLOCKS];
+    any_taken(sheet, head, n, &mut code, &mut data)
+}

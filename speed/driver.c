@@ -33,9 +33,9 @@ typedef size play_fn(const u8 *, size, u8 *, u8 *, size, u8 *, size, u8 *, size,
 
 engine_fn rattle_engine, rattle_called, rattle_by_value, rattle_frames, plain_engine, plain_called, plain_frames;
 player_fn rattle_player, plain_player;
-play_fn rattle_play, plain_play;
+play_fn rattle_play, rattle_play_large, plain_play;
 
-enum { CODE_SIZE = 32768, DATA_SIZE = 2048, DATA_START = 0xF1000, PAGE = 256 };
+enum { CODE_SIZE = 32768, DATA_SIZE = 2048, DATA_START = 0xF1000, PAGE = 256, LARGE_CODE = 131072, LARGE_DATA = 8192 };
 
 // ---- what a call works on
 
@@ -50,6 +50,10 @@ static struct lent before, ours, plain;
 
 static u8 input[70000], replies[46], sheet[66000];
 static size input_n, replies_n, sheet_n;
+
+#ifdef PLAY
+static u8 large_code[LARGE_CODE], large_data[LARGE_DATA];
+#endif
 
 static void blank(struct lent *m)
 {
@@ -89,8 +93,18 @@ __attribute__((noinline)) static void call_play(struct lent *m, struct run r)
                              sizeof m->reply - (r.less == 3), m->frame, sizeof m->frame - (r.less == 4), m->sums, 64, m->each);
 }
 
-// FRAMES is handed whole frames on both sides; AS_BYTES has our own engine, byte by byte, for its plain side.
-enum kind { ENGINE, CALLED, BY_VALUE, PLAYER, PLAY_ALL, FRAMES, AS_BYTES };
+#ifdef PLAY
+static int on_large; // the flashes of the large chip are lent, blank
+
+__attribute__((noinline)) static void call_play_large(struct lent *m)
+{
+    m->answer = play_called(sheet, sheet_n, m->held, large_code, LARGE_CODE, large_data, LARGE_DATA, m->reply, sizeof m->reply, m->frame, sizeof m->frame,
+                             m->sums, 64, m->each);
+}
+#endif
+
+// FRAMES is handed whole frames on both sides; AS_BYTES has our own engine, byte by byte, for its plain side; LARGE has our own play on the small chip.
+enum kind { ENGINE, CALLED, BY_VALUE, PLAYER, PLAY_ALL, FRAMES, AS_BYTES, LARGE };
 
 static void choose(enum kind kind, int proved)
 {
@@ -109,6 +123,13 @@ static void choose(enum kind kind, int proved)
 #ifdef PLAY
     if (kind == PLAY_ALL)
         play_called = proved ? rattle_play : plain_play;
+    on_large = kind == LARGE && proved;
+    if (kind == LARGE)
+        play_called = proved ? rattle_play_large : rattle_play;
+    if (on_large) {
+        memset(large_code, 0xFF, LARGE_CODE);
+        memset(large_data, 0xFF, LARGE_DATA);
+    }
 #endif
 }
 
@@ -116,7 +137,11 @@ static void call(enum kind kind, struct lent *m, struct run r)
 {
     if (kind == PLAYER)
         call_player(m, r);
-    else if (kind == PLAY_ALL)
+#ifdef PLAY
+    else if (on_large)
+        call_play_large(m);
+#endif
+    else if (kind == PLAY_ALL || kind == LARGE)
         call_play(m, r);
     else
         call_engine(m, r);
@@ -133,6 +158,12 @@ static void both(const char *what, enum kind kind, struct run r)
     choose(kind, 0);
     call(kind, &plain, r);
     const char *differs = 0;
+#ifdef PLAY
+    if (kind == LARGE) {
+        memcpy(ours.code, large_code, CODE_SIZE);
+        memcpy(ours.data, large_data, DATA_SIZE);
+    }
+#endif
     if (ours.answer != plain.answer)
         differs = "answers";
     else if (memcmp(ours.code, plain.code, CODE_SIZE) != 0)
@@ -220,8 +251,12 @@ static void put_pages(size pages, u8 first)
     }
 }
 
+// where the entries begin: 2 in form 1, 6 in form 2
+static size sheet_head = 2;
+
 static void sheet_begin(size steps)
 {
+    sheet_head = 2;
     sheet[0] = steps;
     sheet[1] = 0;
     sheet_n = 2 + 12 * steps;
@@ -229,7 +264,7 @@ static void sheet_begin(size steps)
 
 static void sheet_step(size i, u8 kind, u32 sad, u32 ead)
 {
-    u8 *e = sheet + 2 + 12 * i;
+    u8 *e = sheet + sheet_head + 12 * i;
     e[0] = kind;
     put_address(e + 1, sad);
     put_address(e + 4, ead);
@@ -398,6 +433,24 @@ static void sheet_largest(void)
     memcpy(sheet + 254 + 136 * PAGE, sheet + 254, 112 * PAGE);
     memcpy(sheet + 254 + 248 * PAGE, sheet + 254 + 128 * PAGE, 7 * PAGE);
 }
+
+// Code blocks erased, written and verified, from the first on: accepted on either chip.
+static void sheet_both(size blocks)
+{
+    sheet_begin(3);
+    for (u8 kind = 1; kind < 4; kind++)
+        sheet_step(kind - 1, kind, 0, code_at(blocks) - 1);
+}
+
+static void sheet_both_1(void)
+{
+    sheet_both(1);
+}
+
+static void sheet_both_15(void)
+{
+    sheet_both(15);
+}
 #endif
 
 struct row {
@@ -443,6 +496,8 @@ static const struct row rows[] = {
     {"command and page, 64 steps, 58368 bytes", PLAYER, sheet_large_64, 2},
 #ifdef PLAY
     {"a whole play, 65534 bytes, 21 steps", PLAY_ALL, sheet_largest, 0},
+    {"large chip by the small: 8 pages, twice", LARGE, sheet_both_1, 0},
+    {"large chip by the small: 120 pages, twice", LARGE, sheet_both_15, 0},
 #endif
 };
 
@@ -461,7 +516,7 @@ static size units(const struct row *row, struct run r)
 {
     if (row->kind == PLAYER)
         return r.calls;
-    return row->kind == PLAY_ALL ? 1 : input_n;
+    return row->kind == PLAY_ALL || row->kind == LARGE ? 1 : input_n;
 }
 
 static void heading(const char *unit)
@@ -472,7 +527,7 @@ static void heading(const char *unit)
 
 static void line(const struct row *row, struct run r, double proved, double base)
 {
-    static const char *const unit[] = {"byte", "byte", "byte", "call", "play", "byte", "byte"};
+    static const char *const unit[] = {"byte", "byte", "byte", "call", "play", "byte", "byte", "play"};
     double n = units(row, r);
     printf("%-42s %-5s %12.2f %12.2f %7.2f\n", row->name, unit[row->kind], proved / n, base / n, proved / base);
 }
@@ -582,7 +637,8 @@ __attribute__((noinline)) static size depth(void)
 
 static void stack(void)
 {
-    static const char *const entry[] = {"engine", "engine, kept a call", "call by value", "player call", "whole play", "whole frames", "whole frames by our bytes"};
+    static const char *const entry[] = {"engine",     "engine, kept a call", "call by value",             "player call",
+                                        "whole play", "whole frames",        "whole frames by our bytes", "large chip by the small"};
     printf("%-42s %12s %12s\n", "stack, bytes", "proved", "plain");
     for (int i = 0; i < ROWS; i++) {
         size used[2];
@@ -745,20 +801,46 @@ static struct run random_session(void)
     return r;
 }
 
+// form 2, for a chip with that number
+static void sheet_begin_two(size steps, u8 chip)
+{
+    static const u8 begins[4] = {0xFE, 0x02};
+    sheet_head = 6;
+    memcpy(sheet, begins, 4);
+    sheet[2] = chip;
+    sheet[4] = steps;
+    sheet[5] = 0;
+    sheet_n = 6 + 12 * steps;
+}
+
+// a lock, most of the time one that leaves IFPR as it is, with its filler
+static void random_lock(size i)
+{
+    u32 keeps = one_in(6) ? 0 : 0x0400;
+    sheet_step(i, 6, (any(65536) | keeps) + (one_in(20) ? 0x10000 : 0), one_in(20) ? 1 : 0);
+}
+
 static void random_sheet(void)
 {
-    u32 steps = one_in(10) ? any(65) : any(8);
-    sheet_begin(steps);
+    u32 steps = one_in(10) ? any(65) : any(8), two = one_in(2);
+    if (two)
+        sheet_begin_two(steps, one_in(8) ? any(4) : 1);
+    else
+        sheet_begin(steps);
     for (u32 i = 0; i < steps; i++) {
         u32 sad, ead;
+        if (two && one_in(6)) {
+            random_lock(i);
+            continue;
+        }
         random_pair(&sad, &ead, 2);
         if (ead > 0xFFFFF || ead - sad > 4096)
             ead = sad;
-        sheet_step(i, 1 + any(4), sad, ead);
+        sheet_step(i, 1 + any(two ? 5 : 4), sad, ead);
     }
     if (one_in(4))
-        for (u32 k = 1 + any(4), i = any(2 + 12 * steps); k > 0; k--)
-            sheet[one_in(2) ? i / 12 * 12 + any(12) : any(2 + 12 * steps)] ^= 1u << any(8);
+        for (u32 k = 1 + any(4), i = any(sheet_head + 12 * steps); k > 0; k--)
+            sheet[one_in(2) ? i / 12 * 12 + any(12) : any(sheet_head + 12 * steps)] ^= 1u << any(8);
     if (one_in(12))
         sheet_n = any(sheet_n + 1);
     if (one_in(12))

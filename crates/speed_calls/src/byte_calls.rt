@@ -32,15 +32,18 @@ pub fn starting(start: usize) -> Core {
     powered(o)
 }
 
-// What a byte call answered: its size and its first `shown` bytes where it has any, or its refusal.
+// An answer: its size and its first `shown` bytes where it has any.
+fn told(sum: usize, n: usize, reply: &[u8], shown: usize) -> usize {
+    if n == 0 {
+        return sum;
+    }
+    mixed_bytes(mixed(sum, n), reply, less_of(n, shown))
+}
+
+// What a byte call answered: its size and its bytes, or its refusal.
 pub fn answered(sum: usize, call: Call, reply: &[u8], shown: usize) -> usize {
     match call {
-        Call::Answer(n) => {
-            if n == 0 {
-                return sum;
-            }
-            mixed_bytes(mixed(sum, n), reply, less_of(n, shown))
-        }
+        Call::Answer(n) => told(sum, n, reply, shown),
         Call::Refused(refusal) => mixed(sum, number_of(refusal)),
     }
 }
@@ -62,14 +65,14 @@ pub fn each_byte(
         let changed = byte_change(chip, core, bytes[i], held, code, data, reply);
         match changed {
             Change::Refused(refusal) => {
-                sum = answered(sum, Call::Refused(refusal), &*reply, shown);
+                sum = mixed(sum, number_of(refusal));
             }
             Change::Held(n) => {
                 core.have = n;
             }
             Change::Whole(h) => {
                 core = h.core;
-                sum = answered(sum, Call::Answer(h.answered), &*reply, shown);
+                sum = told(sum, h.answered, &*reply, shown);
             }
         }
     }

@@ -9,7 +9,7 @@ use speed_calls::digest::number_of;
 use speed_calls::player_calls::reported;
 
 // What a play came to: its answer, and of one that was played the report and the size of the last answer.
-fn outcome(answer: Answer, p: Player, arrived: usize) -> usize {
+pub fn outcome(answer: Answer, p: Player, arrived: usize) -> usize {
     match answer {
         Answer::Refused(refusal) => mixed(0, number_of(refusal)),
         Answer::NotAtStep => mixed(0, 0x2001),

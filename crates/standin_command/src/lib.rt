@@ -1,6 +1,7 @@
 // A whole command frame: its own faults are answered (rows 1 to 4 of the status table); else its command is refused or done.
 use rules::Chip;
 use rules::Fault;
+use rules::Note;
 use rules::Options;
 use rules::Phase;
 use rules::Task;
@@ -12,6 +13,7 @@ use standin_state::resting::unanswered;
 ghost use mathlib.Core.Path.{_≡_};
 ghost use Prim.Native.Nat.{_≤_};
 ghost use lib.ListN.{length};
+ghost use Rattle.rules.specs.declared.Fault.the-variants.{Parameter, Ident};
 ghost use Rattle.rules.specs.declared.Task.the-variants.{Idle};
 ghost use Rattle.rules.specs.Chip.{Memory};
 ghost use Rattle.rules.specs.Frame.{one, statusByte, noteOf};
@@ -63,17 +65,48 @@ fn phase_after(phase: Phase, v: Fault) -> Phase
     }
 }
 
-// A fault answered: flash and options stand.
+// The phase after a parameter or ID fault, both of which silence in Speed and Ident.
+pub(crate) fn silenced(phase: Phase) -> Phase
+    ensures { λ r. ⌜ (r ≡ phaseAfter phase Parameter) × (r ≡ phaseAfter phase Ident) ⌝ }
+{
+    match phase {
+        Phase::Mode => Phase::Mode,
+        Phase::Speed => Phase::Silent,
+        Phase::Ident => Phase::Silent,
+        Phase::Command => Phase::Command,
+        Phase::Silent => Phase::Silent,
+    }
+}
+
+// A status byte answered, with that note: flash and options stand. It is small, so that the compiler puts it where a command is refused and the
+// answer of one that is done does not go through memory; nor does its empty note.
+pub(crate) fn refuse_with(
+    phase: Phase,
+    o: Options,
+    status: u8,
+    note: Note,
+    reply: &mut [u8],
+) -> Response
+    requires { ⌜ 16 ≤ length (now reply) ⌝ }
+    ensures { λ r. ⌜ ((m : Memory) → Comes r m (now (reply .exit)) (noted note (out (rest phase Idle o m) (one status))) (now (reply .entry))) ⌝ }
+{
+    let n = frame_build::put_one(reply, status);
+    Response {
+        core: standin_state::resting::at_rest(phase, Task::Idle, o),
+        answered: n,
+        note,
+    }
+}
+
+// A fault answered.
 fn refuse(phase: Phase, o: Options, v: Fault, reply: &mut [u8]) -> Response
     requires { ⌜ 16 ≤ length (now reply) ⌝ }
     ensures { λ r. ⌜ ((m : Memory) → Comes r m (now (reply .exit)) (noted (noteOf v) (out (rest (phaseAfter phase v) Idle o m) (one (statusByte v)))) (now (reply .entry))) ⌝ }
 {
-    let n = frame_build::put_one(reply, frame_judge::status_byte(v));
-    Response {
-        core: standin_state::resting::at_rest(phase_after(phase, v), Task::Idle, o),
-        answered: n,
-        note: frame_judge::note_of(v),
-    }
+    let status = frame_judge::status_byte(v);
+    let after = phase_after(phase, v);
+    let note = frame_judge::note_of(v);
+    refuse_with(after, o, status, note, reply)
 }
 
 // The frame judged by its own rows, then by its command.

@@ -1,6 +1,7 @@
 // A command whose frame is well: one match over the codes of 01's table reads the information and refuses or does the order. Below it a small
 // function for each kind of answer, and for each command that its information, flash or options can refuse.
-use crate::refuse;
+use crate::refuse_with;
+use crate::silenced;
 use chip_options::change::security_set;
 use octets::numbers::address_at;
 use octets::numbers::byte_at;
@@ -10,7 +11,6 @@ use octets::numbers::word_at;
 use rules::Address;
 use rules::Block;
 use rules::Chip;
-use rules::Fault;
 use rules::Flash;
 use rules::Found;
 use rules::Note;
@@ -33,11 +33,13 @@ ghost use Rattle.rules.specs.declared.Options.{Options};
 ghost use Rattle.rules.specs.declared.Task.the-variants.{Idle};
 ghost use Rattle.rules.specs.declared.Order.the-variants.{Verify, Erase, BlankCheck, Program, BaudRate, Identity, Release, WindowSet, Checksum};
 ghost use Rattle.rules.specs.declared.Decoded.the-variants.{Is, Bad};
+ghost use Rattle.rules.specs.declared.Fault.the-variants.{Parameter};
 ghost use Rattle.rules.specs.Chip.{Memory, wordBytes, blocks, eraseAddress, range};
-ghost use Rattle.rules.specs.Frame.{dataStart, lastEnd, frame};
+ghost use Rattle.rules.specs.Frame.{dataStart, lastEnd, frame, one};
 ghost use Rattle.rules.specs.Options.{shownSF1, shownSF2, shownSWS, shownSWE};
 ghost use Rattle.rules.specs.State.{out, rest};
 ghost use Rattle.rules.specs.Command.{overBlocks, atBlock, decoded, ack, ackData, afterSpeed, secured};
+ghost use Rattle.rules.specs.StandIn.{phaseAfter};
 ghost use Rattle.chip_finder.specs.LentFlashes.{memory};
 ghost use Rattle.standin_state.specs.View.{Comes, Fits};
 ghost use Rattle.standin_command.specs.Ordered.{onOrder};
@@ -131,6 +133,15 @@ fn secure(phase: Phase, o: Options, reply: &mut [u8]) -> Response
 
 // ---- the commands that can be refused ----
 
+// 05h: the information is not valid.
+fn refuse_information(phase: Phase, o: Options, reply: &mut [u8]) -> Response
+    requires { ⌜ 16 ≤ length (now reply) ⌝ }
+    ensures { λ r. ⌜ ((m : Memory) → Comes r m (now (reply .exit)) (out (rest (phaseAfter phase Parameter) Idle o m) (one 0x05)) (now (reply .entry))) ⌝ }
+{
+    let after = silenced(phase);
+    refuse_with(after, o, 0x05, Note::Empty, reply)
+}
+
 // Verify: the pages of a valid address pair are awaited.
 fn verify(chip: Chip, c: Core, sad: Address, ead: Address, reply: &mut [u8]) -> Response
     requires { ⌜ 16 ≤ length (now reply) ⌝ }
@@ -147,7 +158,7 @@ fn verify(chip: Chip, c: Core, sad: Address, ead: Address, reply: &mut [u8]) -> 
                 reply,
             )
         }
-        Range::Invalid => refuse(phase, o, Fault::Parameter, reply),
+        Range::Invalid => refuse_information(phase, o, reply),
     }
 }
 
@@ -167,7 +178,7 @@ fn program(chip: Chip, c: Core, sad: Address, ead: Address, reply: &mut [u8]) ->
                 reply,
             )
         }
-        Range::Invalid => refuse(phase, o, Fault::Parameter, reply),
+        Range::Invalid => refuse_information(phase, o, reply),
     }
 }
 
@@ -191,7 +202,7 @@ fn tell_sum<'a>(
             let sum = octets::checksum(chip_finder::range_part(chip, code, data, g, a, b));
             tell_word(phase, o, sum, reply)
         }
-        Range::Invalid => refuse(phase, o, Fault::Parameter, reply),
+        Range::Invalid => refuse_information(phase, o, reply),
     }
 }
 
@@ -212,17 +223,19 @@ fn check_blank<'a>(
     let phase = c.phase;
     let o = c.options;
     if 1 < tar {
-        return refuse(phase, o, Fault::Parameter, reply);
+        return refuse_information(phase, o, reply);
     }
     match chip_finder::range(chip, sad, ead) {
         Range::Blocks(g, a, b) => {
             let v = standin_verdict::blank_fault(chip, o, code, data, g, a, b, tar);
-            if frame_judge::status_byte(v) != 0x06 {
-                return refuse(phase, o, v, reply);
+            let status = frame_judge::status_byte(v);
+            if status != 0x06 {
+                let note = frame_judge::note_of(v);
+                return refuse_with(phase, o, status, note, reply);
             }
             acknowledge(phase, Task::Idle, o, reply)
         }
-        Range::Invalid => refuse(phase, o, Fault::Parameter, reply),
+        Range::Invalid => refuse_information(phase, o, reply),
     }
 }
 
@@ -242,8 +255,9 @@ fn erase_block(
     let phase = c.phase;
     let o = c.options;
     let v = standin_verdict::erase_fault(o, g, b);
-    if frame_judge::status_byte(v) != 0x06 {
-        return refuse(phase, o, v, reply);
+    let status = frame_judge::status_byte(v);
+    if status != 0x06 {
+        return refuse_with(phase, o, status, Note::Empty, reply);
     }
     chip_flash::erase::erase_block(chip, code, data, g, b);
     acknowledge(phase, Task::Idle, o, reply)
@@ -266,7 +280,7 @@ fn erase(
         Found::Nowhere => {
             let phase = c.phase;
             let o = c.options;
-            refuse(phase, o, Fault::Parameter, reply)
+            refuse_information(phase, o, reply)
         }
     }
 }
@@ -281,7 +295,7 @@ fn set_speed(c: Core, brt: u8, vdd: u8, reply: &mut [u8]) -> Response
     if standin_verdict::rated(brt, vdd) {
         return tell_speed(o, reply);
     }
-    refuse(phase, o, Fault::Parameter, reply)
+    refuse_information(phase, o, reply)
 }
 
 // ID: the ten bytes that stand in the frame.
@@ -292,8 +306,10 @@ fn identify(c: Core, f: &[u8], code: &[u8], reply: &mut [u8]) -> Response
     let phase = c.phase;
     let o = c.options;
     let v = standin_verdict::ident_fault(f, code);
-    if frame_judge::status_byte(v) != 0x06 {
-        return refuse(phase, o, v, reply);
+    let status = frame_judge::status_byte(v);
+    if status != 0x06 {
+        let after = silenced(phase);
+        return refuse_with(after, o, status, Note::Empty, reply);
     }
     acknowledge(Phase::Command, Task::Idle, o, reply)
 }
@@ -306,8 +322,9 @@ fn release(c: Core, code: &[u8], data: &[u8], reply: &mut [u8]) -> Response
     let phase = c.phase;
     let o = c.options;
     let v = standin_verdict::release_fault(o, code, data);
-    if frame_judge::status_byte(v) != 0x06 {
-        return refuse(phase, o, v, reply);
+    let status = frame_judge::status_byte(v);
+    if status != 0x06 {
+        return refuse_with(phase, o, status, Note::Empty, reply);
     }
     acknowledge(phase, Task::Idle, chip_options::change::release(o), reply)
 }
@@ -320,8 +337,9 @@ fn set_window(c: Core, sws: u16, swe: u16, reply: &mut [u8]) -> Response
     let phase = c.phase;
     let o = c.options;
     let v = standin_verdict::window_fault(o);
-    if frame_judge::status_byte(v) != 0x06 {
-        return refuse(phase, o, v, reply);
+    let status = frame_judge::status_byte(v);
+    if status != 0x06 {
+        return refuse_with(phase, o, status, Note::Empty, reply);
     }
     acknowledge(
         phase,
@@ -379,6 +397,6 @@ pub(crate) fn obey(
             &*data,
             reply,
         ),
-        _ => refuse(phase, o, Fault::Parameter, reply),
+        _ => refuse_information(phase, o, reply),
     }
 }

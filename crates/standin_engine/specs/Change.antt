@@ -1,17 +1,32 @@
 -- What a byte changes, as a record and an answer. Assumes nothing.
 use Prim.Native.Nat.{ℕ}
+use mathlib.Core.Path.{_≡_}
 use mathlib.Core.List.{List}
+use Rattle.rules.specs.declared.Chip.{Chip}
 use Rattle.rules.specs.declared.Call.{Call}
 use Rattle.rules.specs.declared.Call.the-variants.{Refused, Answer}
 use Rattle.rules.specs.declared.Note.{Note}
 use Rattle.rules.specs.declared.Note.the-variants.{Empty}
 use Rattle.rules.specs.Chip.{Memory}
-use Rattle.rules.specs.StandIn.{Outcome}
+use Rattle.rules.specs.StandIn.{Outcome, answered, receive, received, onFrame}
+use Rattle.frame_build.specs.Buffer.{frameIn}
 use Rattle.standin_state.specs.declared.Core.{Core}
+use Rattle.standin_state.specs.View.{idle}
+use Rattle.standin_engine.specs.declared.Taken.{Taken}
+use Rattle.standin_engine.specs.declared.Taken.the-variants as took
 use Rattle.standin_engine.specs.declared.Change.{Change}
 use Rattle.standin_engine.specs.declared.Change.the-variants as change
 use Rattle.standin_engine.specs.declared.CoreAfter.{CoreAfter}
 use Rattle.standin_engine.specs.View.{view, callOutcome, holds}
+
+-- what a byte in a phase that takes frames comes to, whatever flashes and reply buffer are lent: nothing is answered, or the frame that the buffer
+-- then holds is taken
+abbrev pub Takes : Chip → Core → ℕ → List ℕ → List ℕ → Taken → Type 0
+Takes chip c byte old new (took.Held n) =
+    (m : Memory) (reply : List ℕ)
+    → callOutcome (view (holds c n) new m) (Answer 0) Empty reply ≡ answered (receive chip (view c old m) (received (c .have) old) byte) reply
+Takes chip c byte old new took.Whole =
+    (m : Memory) → onFrame chip (idle c m) (frameIn new) ≡ receive chip (view c old m) (received (c .have) old) byte
 
 -- the record after the byte
 abbrev pub changed : Core → Change → Core

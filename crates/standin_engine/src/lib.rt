@@ -19,9 +19,8 @@ ghost use Rattle.rules.specs.Frame.{frameSize, lenOf};
 ghost use Rattle.rules.specs.Numbers.{callNumber};
 ghost use Rattle.rules.specs.StandIn.{byteCall, receive, answered, received, listening};
 ghost use Rattle.chip_finder.specs.LentFlashes.{memory};
-ghost use Rattle.standin_state.specs.View.{Fits};
 ghost use Rattle.standin_engine.specs.View.{view, callOutcome, heldCount, holds};
-ghost use Rattle.standin_engine.specs.Change.{callOf, changeOutcome, coreOutcome};
+ghost use Rattle.standin_engine.specs.Change.{Takes, callOf, changeOutcome, coreOutcome};
 ghost use Rattle.standin_engine.specs.Stands.{Stands};
 
 pub mod frames;
@@ -85,34 +84,33 @@ fn begin(chip: Chip, c: Core, byte: u8, held: &mut [u8; 260]) -> usize
     1
 }
 
+// What a byte in a phase that takes frames comes to: so many bytes of a frame are held, or the frame is whole. It has nothing of the device in it,
+// so a byte that only goes on with a frame is a number also where the engine is not put into its caller.
+pub enum Taken {
+    Held(usize),
+    Whole,
+}
+
 // A byte in a phase that takes frames: it begins one, goes on with one, or completes one. With two bytes no frame is whole.
-fn receive(
-    chip: Chip,
-    c: Core,
-    byte: u8,
-    held: &mut [u8; 260],
-    code: &mut [u8],
-    data: &mut [u8],
-    reply: &mut [u8],
-) -> Change
-    requires { ⌜ (length (now held) ≡ 260) × (Fits chip (now code) (now «data») (now reply)) ⌝ }
-    ensures { λ r. ⌜ changeOutcome c r (now (held .exit)) (memory (now (code .exit)) (now («data» .exit))) (now (reply .exit)) ≡ answered (receive chip (view c (now (held .entry)) (memory (now (code .entry)) (now («data» .entry)))) (received (c .have) (now (held .entry))) byte) (now (reply .entry)) ⌝ }
+fn receive(chip: Chip, c: Core, byte: u8, held: &mut [u8; 260]) -> Taken
+    requires { ⌜ length (now held) ≡ 260 ⌝ }
+    ensures { λ r. ⌜ Takes chip c byte (now (held .entry)) (now (held .exit)) r ⌝ }
 {
     let have = c.have;
     if have == 1 {
         held[1] = byte;
-        return Change::Held(2);
+        return Taken::Held(2);
     }
     let size = in_hand(have, &*held);
     if have >= size {
-        return Change::Held(begin(chip, c, byte, held));
+        return Taken::Held(begin(chip, c, byte, held));
     }
     held[have] = byte;
     let n = have + 1;
     if n == size {
-        return Change::Whole(frames::on_frame(chip, c, &*held, code, data, reply));
+        return Taken::Whole;
     }
-    Change::Held(n)
+    Taken::Held(n)
 }
 
 // The phases that take frames: not the one that waits for a mode byte, nor silence.
@@ -169,7 +167,10 @@ pub fn byte_change(
             note: Note::Empty,
         });
     }
-    receive(chip, c, byte, held, code, data, reply)
+    if let Taken::Held(n) = receive(chip, c, byte, held) {
+        return Change::Held(n);
+    }
+    Change::Whole(frames::on_frame(chip, c, &*held, code, data, reply))
 }
 
 // The byte call, answered by the whole small state.

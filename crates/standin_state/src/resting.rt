@@ -16,10 +16,17 @@ ghost use Rattle.standin_state.specs.View.{resting, idle, Comes, unanswe
 pub fn at_rest(phase: Phase, task: Task, options: Options) -> Core
     ensures { λ r. ⌜ r ≡ resting phase task options ⌝ }
 {
+    // the options field by field: copied whole, the window's two words would be packed into one and taken apart again around each frame
+    let own = Options {
+        sf1: options.sf1,
+        sf2: options.sf2,
+        sws: options.sws,
+        swe: options.swe,
+    };
     Core {
         phase,
         task,
-        options,
+        options: own,
         have: 0,
     }
 }

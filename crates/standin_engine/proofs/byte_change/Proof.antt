@@ -1,5 +1,7 @@
 -- `standin_engine::byte_change` meets its contract. Assumes nothing.
-use mathlib.Core.Path.{_≡_, refl, sym, ap, _∙_}
+use mathlib.Core.Path.{_≡_, refl, sym, ap, subst, _∙_}
+use mathlib.Core.List.{List}
+use Prim.Native.Nat.{ℕ}
 use native.Mathlib.Omega.{arith}
 use lib.ListN.{length}
 use denote.Ref.{now}
@@ -9,14 +11,16 @@ use Rattle.rules.specs.declared.Phase.{Phase}
 use Rattle.rules.specs.declared.Task.the-variants.{Idle}
 use Rattle.rules.specs.declared.Call.the-variants.{Answer}
 use Rattle.rules.specs.declared.Verdict.the-variants.{Accepted}
-use Rattle.rules.specs.StandIn.{Out, Outcome, answered, lentVerdict, step, byteCall, rest, received, afterMode}
+use Rattle.rules.specs.StandIn.{Out, answered, lentVerdict, receive, step, byteCall, rest, received, afterMode}
 use Rattle.chip_finder.specs.LentFlashes.{memory}
 use Rattle.standin_state.specs.declared.Core.{Core}
-use Rattle.standin_state.specs.View.{resting}
+use Rattle.standin_state.specs.View.{resting, idle, Fits}
+use Rattle.standin_state.proofs.Handed.{fits-taken}
 use Rattle.standin_state.proofs.Lending.{lent-fits}
+use Rattle.standin_engine.specs.declared.Taken.{Taken}
+use Rattle.standin_engine.specs.Change.{Takes}
 use Rattle.standin_engine.specs.View.{view, callOutcome}
-use Rattle.standin_engine.proofs.Receives.{refused-byte, taken, unanswered, silent-step, mode-step, frame-step, takes-frames, takes-none}
-use Rattle.standin_engine.proofs.Stays.{answered-stands}
+use Rattle.standin_engine.proofs.Receives.{refused-byte, taken, unanswered, silent-step, mode-step, frame-step, takes-frames, takes-none, none-got}
 use borrow.Author.Needs.{needs}
 use Rattle.standin_engine.proofs.byte_change.Statement.{statement}
 use Rattle.standin_engine.proofs.byte_change.Tie as tie
@@ -69,23 +73,57 @@ returns-3 c =
       λ refused. absurd (refused refl),
     )
 
-receive-requires : tie.Need-receive-requires
-receive-requires c κs =
-    let e = c .before .before .before .before .before .before in
-    (known (e .before .before .before), lent-fits _ _ _ _ (accepted e))
+-- in a phase that takes frames the byte is received
+module _ (r : tie.After-receive) where
+  abbrev listened : tie.Else1
+  listened = r .before .before
+
+  abbrev past : tie.After-enum-told
+  past = listened .before .before
+
+  abbrev start : tie.Start
+  start = past .before .before .before .before .before .before .before .before
+
+  abbrev buffer : List ℕ
+  buffer = r .receive .last .1 .1 .1 .0
+
+  -- what was taken
+  took : (t : Taken) → r .receive .result ≡ t → Takes (start .args .chip) (start .args .c) (start .args .byte) (now (start .args .held)) buffer t
+  took t e = subst (λ (x : Taken). Takes (start .args .chip) (start .args .c) (start .args .byte) (now (start .args .held)) buffer x) e (r .receive .ensures)
+
+  stepped : let a = start .args in let v = view (a .c) (now (a .held)) (memory (now (a .code)) (now (a .«data»))) in
+      receive (a .chip) v (received (a .c .have) (now (a .held))) (a .byte) ≡ step (a .chip) v (a .byte)
+  stepped =
+      let a = start .args in
+      let frames = takes-frames (a .c .phase) (sym (listened .before .listens .ensures) ∙ not-false _ (listened .if1 .left)) in
+      frame-step (a .chip) (view (a .c) (now (a .held)) (memory (now (a .code)) (now (a .«data»)))) (a .byte) (frames .0) (frames .1)
 
 returns-4 : tie.Need-returns-4
 returns-4 c =
-    let r = c .before .before .before .before .before .before in
-    let i = r .before .before .before .before .before in
-    let e = i .before .before in
-    let a = e .before .before .before .before .before .before .before .before .args in
-    let v = view (a .c) (now (a .held)) (memory (now (a .code)) (now (a .«data»))) in
-    let frames = takes-frames (a .c .phase) (sym (i .before .listens .ensures) ∙ not-false _ (i .if1 .left)) in (
-      r .receive .ensures
-          ∙ ap (λ (o : Out). answered o (now (a .reply))) (frame-step (a .chip) v (a .byte) (frames .0) (frames .1))
-          ∙ opened e,
-      answered-stands _ _ _ _ (ap (λ (o : Outcome). o .call) (r .receive .ensures)),
+    let r = c .before .before .before in
+    let a = start r .args in (
+      took r _ (c .before .n .given .1) (memory (now (a .code)) (now (a .«data»))) (now (a .reply))
+          ∙ ap (λ (o : Out). answered o (now (a .reply))) (stepped r)
+          ∙ opened (past r),
+      λ refused. absurd (refused refl),
+    )
+
+returns-5 : tie.Need-returns-5
+returns-5 c =
+    let f = c .before .before .before .before .before .before .on-frame in
+    let told = c .before .before .before .before .before .before .before .before .before .before .before in
+    let r = told .before .before in
+    let a = start r .args in
+    let m = memory (now (a .code)) (now (a .«data»)) in
+    let lent : Fits (a .chip) (now (a .code)) (now (a .«data»)) (now (a .reply)) = lent-fits _ _ _ _ (accepted (past r)) in
+    let t = fits-taken _ _ _ _ lent _ _ _ _ (idle (a .c) m) _ (f .ensures) in (
+      ap
+          (λ (g : List ℕ). callOutcome (record { phase = f .result .core .phase; task = f .result .core .task; options = f .result .core .options; got = g; memory = memory (f .last .1 .1 .1 .0) (f .last .1 .1 .1 .1 .0) }) (Answer (f .result .answered)) (f .result .note) (f .last .1 .1 .1 .1 .1 .0))
+          (none-got (f .result .core .have) (buffer r) (t .1))
+          ∙ t .0
+          ∙ ap (λ (o : Out). answered o (now (a .reply))) (took r _ (told .enum-told2 .given .1) m ∙ stepped r)
+          ∙ opened (past r),
+      λ refused. absurd (refused refl),
     )
 
 pub byte-change-spec : {M : Type 1} → statement M
@@ -102,8 +140,12 @@ byte-change-spec =
     (λ c κs. search needs)
     (λ c κs. search needs)
     returns-3
-    receive-requires
+    (λ c κs. search needs)
+    (λ c. search needs)
+    returns-4
+    (λ c. search needs)
+    (λ c κs. search needs)
     (λ c. search needs)
     (λ c. search needs)
     (λ c. search needs)
-    returns-4)
+    returns-5)

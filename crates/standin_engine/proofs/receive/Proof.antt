@@ -6,51 +6,48 @@ use native.Mathlib.Omega.{arith}
 use lib.ListN.{length, take, set}
 use lib.Seq.{getD-set-other}
 use denote.Ref.{now}
-use Rattle.rules.specs.declared.Call.the-variants.{Answer}
 use Rattle.rules.specs.Frame.{frameSize, lenOf}
-use Rattle.rules.specs.StandIn.{Out, answered, receive, received}
-use Rattle.chip_finder.specs.LentFlashes.{memory}
+use Rattle.rules.specs.StandIn.{answered, receive, received}
 use Rattle.frame_build.proofs.Frames.{frame-size, body-least}
-use Rattle.standin_state.proofs.Handed.{fits-taken}
-use Rattle.standin_engine.specs.View.{view, callOutcome, heldCount}
-use Rattle.standin_engine.proofs.Receives.{held-small, held-more, held-is, held-as, none-got, completed, continued, still-short}
+use Rattle.standin_engine.specs.View.{view, heldCount}
+use Rattle.standin_engine.proofs.Receives.{held-small, held-more, held-is, held-as, completed, continued, still-short}
 use borrow.Author.Needs.{needs}
 use Rattle.standin_engine.proofs.receive.Statement.{statement}
 use Rattle.standin_engine.proofs.receive.Tie as tie
 
 returns : tie.Need-returns
 returns c =
-    let s = c .before .before .before .before in
+    let s = c .before in
     let a = s .args in
     let xs = now (a .held) in
-    let v = view (a .c) xs (memory (now (a .code)) (now (a .«data»))) in
     let len = lenOf (set xs 1 (a .byte)) in
     let some : _≡_ {A = ℕ} 1 0 → ⊥ = λ z. omega arith in
-    let fits : 1 < length xs = omega (arith, s .pre .0) in
+    let fits : 1 < length xs = omega (arith, s .pre) in
     let here : 1 ≡ heldCount 1 xs = held-small 1 xs (omega arith) in
     let short : 1 + 1 ≡ frameSize len → ⊥ = λ z. omega (arith, frame-size len, body-least len) in
-    held-as _ (take 2 (set xs 1 (a .byte))) _ (now (a .reply))
+    λ m reply.
+    held-as _ (take 2 (set xs 1 (a .byte))) _ reply
     (held-is 2 2 (set xs 1 (a .byte)) (still-short xs 1 (a .byte) 1 fits here some short))
-    (continued (a .chip) v (a .byte) xs 1 some fits short)
-    ∙ ap (λ (g : List ℕ). answered (receive (a .chip) v g (a .byte)) (now (a .reply))) (sym (ap (λ (k : ℕ). received k xs) (c .if1 .taken) ∙ held-is 1 1 xs here))
+    (continued (a .chip) (view (a .c) xs m) (a .byte) xs 1 some fits short)
+    ∙ ap (λ (g : List ℕ). answered (receive (a .chip) (view (a .c) xs m) g (a .byte)) reply) (sym (ap (λ (k : ℕ). received k xs) (c .if1 .taken) ∙ held-is 1 1 xs here))
 
 begin-requires : tie.Need-begin-requires
 begin-requires c κs =
-    (c .before .before .before .before .before .before .before .before .pre .0, c .before .before .in-hand .ensures .1 .1 (c .before .if2 .taken) (c .before .before .before .before .if1 .left))
+    (c .before .before .before .before .before .pre, c .before .before .in-hand .ensures .1 .1 (c .before .if2 .taken) (c .before .before .before .before .if1 .left))
 
 returns-2 : tie.Need-returns-2
 returns-2 c =
-    let s = c .before .before .before .before .before .before .before .before .before in
+    let s = c .before .before .before .before .before .before in
     let a = s .args in
-    let m = memory (now (a .code)) (now (a .«data»)) in
     let none = c .before .before .before .in-hand .ensures .1 .1 (c .before .before .if2 .taken) (c .before .before .before .before .before .if1 .left) in
-    c .begin .ensures m (now (a .reply))
-    ∙ ap (λ (g : List ℕ). answered (receive (a .chip) (view (a .c) (now (a .held)) m) g (a .byte)) (now (a .reply))) (sym none)
+    λ m reply.
+    c .begin .ensures m reply
+    ∙ ap (λ (g : List ℕ). answered (receive (a .chip) (view (a .c) (now (a .held)) m) g (a .byte)) reply) (sym none)
 
 -- past the LEN and short of the frame's end: what is held, and that the byte put there leaves LEN
 module _ (c : tie.Else2) where
   abbrev start : tie.Start
-  start = c .before .before .before .before .before .before .before
+  start = c .before .before .before .before
 
   abbrev frame : List ℕ
   frame = now (start .args .held)
@@ -65,7 +62,7 @@ module _ (c : tie.Else2) where
   some z = omega (arith, sized .0)
 
   fits : n < length frame
-  fits = omega (arith, c .if2 .left, c .before .in-hand .ensures .0, start .pre .0)
+  fits = omega (arith, c .if2 .left, c .before .in-hand .ensures .0, start .pre)
 
   here : n ≡ heldCount n frame
   here = held-more n frame (sized .0) (omega (arith, c .if2 .left, sized .1))
@@ -78,32 +75,26 @@ module _ (c : tie.Else2) where
 
 returns-3 : tie.Need-returns-3
 returns-3 c =
-    let e = c .before .before .before .before .before .before .before .before .before .before .before .before in
+    let e = c .before in
     let a = start e .args in
     let xs = frame e in
-    let v = view (a .c) xs (memory (now (a .code)) (now (a .«data»))) in
     let k = n e in
-    let f = c .before .before .before .before .before .before .on-frame in
-    let t = fits-taken _ _ _ _ (start e .pre .1) _ _ _ _ _ _ (f .ensures) in
-    ap
-    (λ (g : List ℕ). callOutcome (record { phase = f .result .core .phase; task = f .result .core .task; options = f .result .core .options; got = g; memory = memory (f .last .1 .1 .1 .0) (f .last .1 .1 .1 .1 .0) }) (Answer (f .result .answered)) (f .result .note) (f .last .1 .1 .1 .1 .1 .0))
-    (none-got (f .result .core .have) (set xs k (a .byte)) (t .1))
-    ∙ t .0
-    ∙ ap (λ (o : Out). answered o (now (a .reply))) (completed (a .chip) v (a .byte) xs k (some e) (fits e) (c .before .before .before .before .before .before .before .before .before .before .before .if3 .taken ∙ same-size e))
-    ∙ ap (λ (g : List ℕ). answered (receive (a .chip) v g (a .byte)) (now (a .reply))) (sym (held-is k k xs (here e)))
+    λ m.
+    completed (a .chip) (view (a .c) xs m) (a .byte) xs k (some e) (fits e) (c .if3 .taken ∙ same-size e)
+    ∙ ap (λ (g : List ℕ). receive (a .chip) (view (a .c) xs m) g (a .byte)) (sym (held-is k k xs (here e)))
 
 returns-4 : tie.Need-returns-4
 returns-4 c =
     let e = c .before in
     let a = start e .args in
     let xs = frame e in
-    let v = view (a .c) xs (memory (now (a .code)) (now (a .«data»))) in
     let k = n e in
     let short : k + 1 ≡ frameSize (lenOf (set xs k (a .byte))) → ⊥ = λ z. c .if3 .left (z ∙ sym (same-size e)) in
-    held-as _ (take (k + 1) (set xs k (a .byte))) _ (now (a .reply))
+    λ m reply.
+    held-as _ (take (k + 1) (set xs k (a .byte))) _ reply
     (held-is (k + 1) (k + 1) (set xs k (a .byte)) (still-short xs k (a .byte) k (fits e) (here e) (some e) short))
-    (continued (a .chip) v (a .byte) xs k (some e) (fits e) short)
-    ∙ ap (λ (g : List ℕ). answered (receive (a .chip) v g (a .byte)) (now (a .reply))) (sym (held-is k k xs (here e)))
+    (continued (a .chip) (view (a .c) xs m) (a .byte) xs k (some e) (fits e) short)
+    ∙ ap (λ (g : List ℕ). answered (receive (a .chip) (view (a .c) xs m) g (a .byte)) reply) (sym (held-is k k xs (here e)))
 
 pub receive-spec : {M : Type 1} → statement M
 receive-spec =
@@ -114,10 +105,6 @@ receive-spec =
     (λ c κs. search needs)
     begin-requires
     returns-2
-    (λ c. search needs)
-    (λ c. search needs)
-    (λ c κs. search needs)
-    (λ c. search needs)
     (λ c. search needs)
     (λ c. search needs)
     returns-3

@@ -17,7 +17,7 @@ use Rattle.rules.specs.declared.Judged.the-variants.{Ordered}
 use Rattle.rules.specs.First.{firstFault}
 use Rattle.rules.specs.Chip.{range}
 use Rattle.rules.specs.Command.{overBlocks, orderChecks, judgedOrder, done}
-use Rattle.rules.specs.StandIn.{Out, onJudged}
+use Rattle.rules.specs.StandIn.{Out, silences, onJudged}
 use Rattle.chip_finder.specs.LentFlashes.{memory}
 use Rattle.chip_finder.proofs.ThereAndBack.{range-inside}
 use Rattle.standin_state.specs.View.{idle}
@@ -25,6 +25,7 @@ use Rattle.standin_verdict.proofs.Ranges.{blank-rows}
 use Rattle.standin_verdict.proofs.Verdicts.{stopped, went-on}
 use Rattle.standin_command.specs.Ordered.{onOrder}
 use Rattle.standin_command.proofs.Answers.{same-out}
+use Rattle.standin_command.proofs.Refusals.{refused-kept, blank-keeps}
 use Rattle.standin_command.proofs.Found.{shown-found}
 use borrow.Author.Needs.{needs}
 use Rattle.standin_command.proofs.orders.check_blank.Statement.{statement}
@@ -35,7 +36,7 @@ unfolding onJudged judgedOrder
 returns c =
     let a = c .before .before .before .before .before .before .before .before .before .args in
     let m = memory (a .code .now) (a .«data» .now) in
-    λ f. same-out _ _ _ _ _ _ (ap (λ (t : Bool). onOrder (a .chip) (a .c) m f (cond t (overBlocks (λ g x y. BlankCheck g x y (a .tar)) (range (a .chip) (a .sad) (a .ead))) Bad)) (sym (lt-leb _ _ (c .before .before .before .before .if1 .taken)))) (c .before .before .refuse .ensures m)
+    λ f. same-out _ _ _ _ _ _ (ap (λ (t : Bool). onOrder (a .chip) (a .c) m f (cond t (overBlocks (λ g x y. BlankCheck g x y (a .tar)) (range (a .chip) (a .sad) (a .ead))) Bad)) (sym (lt-leb _ _ (c .before .before .before .before .if1 .taken)))) (c .before .before .refuse-information .ensures m)
 
 -- TAR is 00h or 01h, and the pair has been read
 abbrev args : tie.After-range → tie.Start
@@ -66,11 +67,12 @@ judged c f =
 returns-2 : tie.Need-returns-2
 unfolding onJudged judgedOrder
 returns-2 c =
-    let v = c .before .before .before .before .before .before in
+    let v = c .before .before .before .before .before .before .before in
     let r = v .before .before .before .before in
     let a = args r .args in
     let m = memory (a .code .now) (a .«data» .now) in
-    λ f. same-out _ _ _ _ _ _ (ap (λ (j : Judged). onJudged j (a .chip) (idle (a .c) m)) (stopped _ _ (judged v f) (Ordered _) (λ e. c .before .before .before .before .if2 .taken (c .before .before .before .before .before .status-byte .ensures ∙ e))) ∙ asked r f _ (v .before .before .g .given .1)) (c .before .before .refuse2 .ensures m)
+    let st = c .before .before .before .before .before .before .status-byte .ensures in
+    λ f. same-out _ _ _ _ _ _ (refused-kept _ _ m _ _ _ (ap silences (judged v f) ∙ blank-keeps (a .c .options) m f _ _ _ (a .tar)) st (c .before .before .before .before .note-of .ensures) ∙ (ap (λ (j : Judged). onJudged j (a .chip) (idle (a .c) m)) (stopped _ _ (judged v f) (Ordered _) (λ e. c .before .before .before .before .before .if2 .taken (st ∙ e))) ∙ asked r f _ (v .before .before .g .given .1))) (c .before .before .refuse-with .ensures m)
 
 returns-3 : tie.Need-returns-3
 unfolding onJudged judgedOrder done
@@ -87,7 +89,7 @@ returns-4 c =
     let r = c .before .before .before .before .before .before in
     let a = args r .args in
     let m = memory (a .code .now) (a .«data» .now) in
-    λ f. same-out _ _ _ _ _ _ (asked r f _ (c .before .before .before .before .enum-told .given .1)) (c .before .before .refuse3 .ensures m)
+    λ f. same-out _ _ _ _ _ _ (asked r f _ (c .before .before .before .before .enum-told .given .1)) (c .before .before .refuse-information2 .ensures m)
 
 pub check-blank-spec : {M : Type 1} → statement M
 check-blank-spec =
@@ -98,6 +100,7 @@ check-blank-spec =
     returns
     (λ c κs. search needs)
     (λ c. search needs)
+    (λ c κs. search needs)
     (λ c κs. search needs)
     (λ c κs. search needs)
     (λ c κs. search needs)

@@ -28,7 +28,7 @@ unfolding onJudged judgedOrder
 returns-2 c =
     let a = c .before .before .before .before .before .before .before .before .before .before .before .args in
     let m = memory (now (a .code)) (now (a .«data»)) in
-    λ f. same-out _ _ _ _ _ _ (ap (λ (x : Found). onOrder (a .chip) (a .c) m f (atBlock x)) (sym (c .before .before .before .before .before .enum-told .given .1) ∙ c .before .before .before .before .before .before .before .erase-address .ensures)) (c .before .before .refuse .ensures m)
+    λ f. same-out _ _ _ _ _ _ (ap (λ (x : Found). onOrder (a .chip) (a .c) m f (atBlock x)) (sym (c .before .before .before .before .before .enum-told .given .1) ∙ c .before .before .before .before .before .before .before .erase-address .ensures)) (c .before .before .refuse-information .ensures m)
 
 pub erase-spec : {M : Type 1} → statement M
 erase-spec =

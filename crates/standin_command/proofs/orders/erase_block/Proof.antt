@@ -1,6 +1,7 @@
 -- `standin_command::orders::erase_block` meets its contract: protection decides. Assumes nothing.
 use mathlib.Core.Path.{sym, ap, _∙_}
 use denote.Ref.{now}
+use Rattle.rules.specs.declared.Note.the-variants.{Empty}
 use Rattle.rules.specs.declared.Judged.{Judged}
 use Rattle.rules.specs.declared.Judged.the-variants.{Ordered}
 use Rattle.rules.specs.declared.Order.the-variants.{Erase}
@@ -13,6 +14,7 @@ use Rattle.chip_finder.specs.LentFlashes.{memory}
 use Rattle.standin_state.specs.View.{idle}
 use Rattle.standin_verdict.proofs.Verdicts.{stopped, went-on}
 use Rattle.standin_command.proofs.Answers.{same-out}
+use Rattle.standin_command.proofs.Refusals.{refused-kept, quiet-as, erase-quiet}
 use Rattle.standin_command.proofs.Found.{erased-found}
 use borrow.Author.Needs.{needs}
 use Rattle.standin_command.proofs.orders.erase_block.Statement.{statement}
@@ -23,7 +25,10 @@ unfolding onJudged judgedOrder
 returns c =
     let a = c .before .before .before .before .before .before .before .before .before .before .before .args in
     let m = memory (now (a .code)) (now (a .«data»)) in
-    λ f. same-out _ _ _ _ _ _ (ap (λ (j : Judged). onJudged j (a .chip) (idle (a .c) m)) (stopped _ _ (c .before .before .before .before .before .before .erase-fault .ensures m f) (Ordered (Erase (a .g) (a .b))) (λ e. c .before .before .before .before .if1 .taken (c .before .before .before .before .before .status-byte .ensures ∙ e)))) (c .before .before .refuse .ensures m)
+    let st = c .before .before .before .before .before .status-byte .ensures in
+    λ f. let v = c .before .before .before .before .before .before .erase-fault .ensures m f in
+    let q = quiet-as _ _ v (erase-quiet (a .c .options) m f (a .g) (a .b)) in
+    same-out _ _ _ _ _ _ (refused-kept _ _ m _ _ Empty (q .0) st (q .1) ∙ ap (λ (j : Judged). onJudged j (a .chip) (idle (a .c) m)) (stopped _ _ v (Ordered (Erase (a .g) (a .b))) (λ e. c .before .before .before .before .if1 .taken (st ∙ e)))) (c .before .before .refuse-with .ensures m)
 
 returns-2 : tie.Need-returns-2
 unfolding onJudged judgedOrder done

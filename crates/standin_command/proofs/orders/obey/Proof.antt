@@ -147,7 +147,7 @@ returns-14 c =
     let r = c .before .before .before .before .match .rest in
     let is = c .before .before .before .before .before .byte-at in
     let no : (k : ℕ) → (is .result ≡ k → ⊥) → k ≡ codeOf f → ⊥ = λ k n e. n (is .ensures ∙ sym e) in
-    same-out _ _ _ _ _ _ (ap (onOrder (a .chip) (a .c) m f) (unlisted commands (codeOf f) (no _ (r .0 .0 .0 .0 .0 .0 .0 .0 .0 .0 .0 .0 .1), (no _ (r .0 .0 .0 .0 .0 .0 .0 .0 .0 .0 .0 .1), (no _ (r .0 .0 .0 .0 .0 .0 .0 .0 .0 .0 .1), (no _ (r .0 .0 .0 .0 .0 .0 .0 .0 .0 .1), (no _ (r .0 .0 .0 .0 .0 .0 .0 .0 .1), (no _ (r .0 .0 .0 .0 .0 .0 .0 .1), (no _ (r .0 .0 .0 .0 .0 .0 .1), (no _ (r .0 .0 .0 .0 .0 .1), (no _ (r .0 .0 .0 .0 .1), (no _ (r .0 .0 .0 .1), (no _ (r .0 .0 .1), (no _ (r .0 .1), (no _ (r .1), tt))))))))))))) (a .chip) f)) (c .before .before .refuse .ensures m)
+    same-out _ _ _ _ _ _ (ap (onOrder (a .chip) (a .c) m f) (unlisted commands (codeOf f) (no _ (r .0 .0 .0 .0 .0 .0 .0 .0 .0 .0 .0 .0 .1), (no _ (r .0 .0 .0 .0 .0 .0 .0 .0 .0 .0 .0 .1), (no _ (r .0 .0 .0 .0 .0 .0 .0 .0 .0 .0 .1), (no _ (r .0 .0 .0 .0 .0 .0 .0 .0 .0 .1), (no _ (r .0 .0 .0 .0 .0 .0 .0 .0 .1), (no _ (r .0 .0 .0 .0 .0 .0 .0 .1), (no _ (r .0 .0 .0 .0 .0 .0 .1), (no _ (r .0 .0 .0 .0 .0 .1), (no _ (r .0 .0 .0 .0 .1), (no _ (r .0 .0 .0 .1), (no _ (r .0 .0 .1), (no _ (r .0 .1), (no _ (r .1), tt))))))))))))) (a .chip) f)) (c .before .before .refuse-information .ensures m)
 
 pub obey-spec : {M : Type 1} → statement M
 obey-spec =

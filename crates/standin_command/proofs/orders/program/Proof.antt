@@ -24,7 +24,7 @@ returns-2 : tie.Need-returns-2
 unfolding onJudged judgedOrder unless orderChecks first done
 returns-2 c =
     let a = c .before .before .before .before .before .before .before .before .before .args in
-    λ m f. same-out _ _ _ _ _ _ (ap (λ (x : Range). onOrder (a .chip) (a .c) m f (overBlocks Program x)) (sym (c .before .before .before .before .enum-told .given .1) ∙ c .before .before .before .before .before .before .range .ensures)) (c .before .before .refuse .ensures m)
+    λ m f. same-out _ _ _ _ _ _ (ap (λ (x : Range). onOrder (a .chip) (a .c) m f (overBlocks Program x)) (sym (c .before .before .before .before .enum-told .given .1) ∙ c .before .before .before .before .before .before .range .ensures)) (c .before .before .refuse-information .ensures m)
 
 pub program-spec : {M : Type 1} → statement M
 program-spec =

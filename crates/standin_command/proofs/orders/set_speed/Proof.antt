@@ -22,7 +22,7 @@ returns-2 : tie.Need-returns-2
 unfolding onJudged judgedOrder unless orderChecks first done
 returns-2 c =
     let a = c .before .before .before .before .before .before .before .before .args in
-    λ chip m f. same-out _ _ _ _ _ _ (ap (λ (t : Bool). onOrder chip (a .c) m f (cond t (Is BaudRate) Bad)) (sym (c .before .before .before .before .if1 .left) ∙ c .before .before .before .before .before .rated .ensures)) (c .before .before .refuse .ensures m)
+    λ chip m f. same-out _ _ _ _ _ _ (ap (λ (t : Bool). onOrder chip (a .c) m f (cond t (Is BaudRate) Bad)) (sym (c .before .before .before .before .if1 .left) ∙ c .before .before .before .before .before .rated .ensures)) (c .before .before .refuse-information .ensures m)
 
 pub set-speed-spec : {M : Type 1} → statement M
 set-speed-spec =

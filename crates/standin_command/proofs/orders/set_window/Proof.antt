@@ -1,6 +1,7 @@
 -- `standin_command::orders::set_window` meets its contract: FSPR decides. Assumes nothing.
 use mathlib.Core.Path.{sym, ap, _∙_}
 use Rattle.rules.specs.declared.Options.{Options}
+use Rattle.rules.specs.declared.Note.the-variants.{Empty}
 use Rattle.rules.specs.declared.Judged.{Judged}
 use Rattle.rules.specs.declared.Judged.the-variants.{Ordered}
 use Rattle.rules.specs.declared.Order.the-variants.{WindowSet}
@@ -9,6 +10,7 @@ use Rattle.rules.specs.StandIn.{onJudged}
 use Rattle.standin_state.specs.View.{idle}
 use Rattle.standin_verdict.proofs.Verdicts.{stopped, went-on}
 use Rattle.standin_command.proofs.Answers.{same-out}
+use Rattle.standin_command.proofs.Refusals.{refused-kept, quiet-as, window-quiet}
 use borrow.Author.Needs.{needs}
 use Rattle.standin_command.proofs.orders.set_window.Statement.{statement}
 use Rattle.standin_command.proofs.orders.set_window.Tie as tie
@@ -17,7 +19,10 @@ returns : tie.Need-returns
 unfolding onJudged judgedOrder
 returns c =
     let a = c .before .before .before .before .before .before .before .before .before .args in
-    λ chip m f. same-out _ _ _ _ _ _ (ap (λ (j : Judged). onJudged j chip (idle (a .c) (m))) (stopped _ _ (c .before .before .before .before .before .before .window-fault .ensures m f _ _) (Ordered (WindowSet (a .sws) (a .swe))) (λ e. c .before .before .before .before .if1 .taken (c .before .before .before .before .before .status-byte .ensures ∙ e)))) (c .before .before .refuse .ensures (m))
+    let st = c .before .before .before .before .before .status-byte .ensures in
+    λ chip m f. let v = c .before .before .before .before .before .before .window-fault .ensures m f (a .sws) (a .swe) in
+    let q = quiet-as _ _ v (window-quiet (a .c .options) m f (a .sws) (a .swe)) in
+    same-out _ _ _ _ _ _ (refused-kept _ _ m _ _ Empty (q .0) st (q .1) ∙ ap (λ (j : Judged). onJudged j chip (idle (a .c) m)) (stopped _ _ v (Ordered (WindowSet (a .sws) (a .swe))) (λ e. c .before .before .before .before .if1 .taken (st ∙ e)))) (c .before .before .refuse-with .ensures m)
 
 returns-2 : tie.Need-returns-2
 unfolding onJudged judgedOrder done

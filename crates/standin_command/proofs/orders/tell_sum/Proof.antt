@@ -33,7 +33,7 @@ unfolding onJudged judgedOrder unless orderChecks first done
 returns-2 c =
     let a = c .before .before .before .before .before .before .before .before .before .before .before .args in
     let m = memory (a .code .now) (a .«data» .now) in
-    λ f. same-out _ _ _ _ _ _ (ap (λ (x : Range). onOrder (a .chip) (a .c) m f (overBlocks Checksum x)) (sym (c .before .before .before .before .enum-told .given .1) ∙ c .before .before .before .before .before .before .range .ensures)) (c .before .before .refuse .ensures m)
+    λ f. same-out _ _ _ _ _ _ (ap (λ (x : Range). onOrder (a .chip) (a .c) m f (overBlocks Checksum x)) (sym (c .before .before .before .before .enum-told .given .1) ∙ c .before .before .before .before .before .before .range .ensures)) (c .before .before .refuse-information .ensures m)
 
 pub tell-sum-spec : {M : Type 1} → statement M
 tell-sum-spec =

@@ -1,6 +1,7 @@
 //! Seeded trial material. The same seed gives the same text on every machine.
 
 mod blanks;
+mod captures;
 mod counts;
 mod forms;
 mod hexes;
@@ -49,6 +50,8 @@ pub enum FileSubject {
     Hex,
     /// Sheets to be moved to the other form.
     Form,
+    /// Captures, each with a file that states its chip.
+    Capture,
 }
 
 impl FileSubject {
@@ -56,6 +59,7 @@ impl FileSubject {
         match name {
             "hex" => Some(FileSubject::Hex),
             "form" => Some(FileSubject::Form),
+            "capture" => Some(FileSubject::Capture),
             _ => None,
         }
     }
@@ -70,6 +74,11 @@ pub fn generate_files(subject: FileSubject, seed: u64, count: u64, dir: &Path) -
         match subject {
             FileSubject::Hex => fs::write(path("hex"), hexes::file(random))?,
             FileSubject::Form => fs::write(path("sheet"), forms::file(random))?,
+            FileSubject::Capture => {
+                let (capture, chip) = captures::files(random);
+                fs::write(path("capture"), capture)?;
+                fs::write(path("chip"), chip)?;
+            }
         }
     }
     Ok(())

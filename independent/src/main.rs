@@ -3,6 +3,7 @@
 
 mod answers;
 mod calls;
+mod capture;
 mod check;
 mod chip;
 mod frames;
@@ -19,12 +20,14 @@ mod sheet;
 mod standin;
 mod status;
 
+use std::fs;
 use std::io::{self, Read, Write};
 use std::path::Path;
 use std::process::ExitCode;
 
 use answers::Answers;
 use calls::Calls;
+use capture::Verdict;
 use chip::Model;
 use generator::{FileSubject, Subject};
 use hex::MOST_TEXT;
@@ -40,13 +43,14 @@ usage: sheetplay answers
        sheetplay play
        sheetplay hex
        sheetplay form up|down
+       sheetplay capture [CHIPFILE]
        sheetplay meaning-check SEED COUNT
        sheetplay generate scripts|plays|sheets SEED COUNT
-       sheetplay generate-files hex|form SEED COUNT DIR
-       sheetplay hex-results|form-results DIR
+       sheetplay generate-files hex|form|capture SEED COUNT DIR
+       sheetplay hex-results|form-results|capture-results DIR
 ";
 
-/// Nothing was done: wrong usage, or input that is too long.
+/// Nothing was done: wrong usage, or input that cannot be read or is too long.
 const COULD_NOT_RUN: u8 = 2;
 
 fn main() -> ExitCode {
@@ -60,7 +64,7 @@ fn main() -> ExitCode {
         }
         Err(error) => {
             eprintln!("sheetplay: {error}");
-            ExitCode::FAILURE
+            ExitCode::from(COULD_NOT_RUN)
         }
     }
 }
@@ -74,6 +78,8 @@ fn run(words: &[&str]) -> io::Result<Option<ExitCode>> {
         ["hex"] => hex(&read_input(MOST_TEXT)?)?,
         ["form", "up"] => form(Form::Two)?,
         ["form", "down"] => form(Form::One)?,
+        ["capture"] => judge_capture(None)?,
+        ["capture", chip_file] => judge_capture(Some(Path::new(chip_file)))?,
         ["meaning-check", seed, count] => {
             let (Ok(seed), Ok(count)) = (seed.parse(), count.parse()) else {
                 return Ok(None);
@@ -99,6 +105,7 @@ fn run(words: &[&str]) -> io::Result<Option<ExitCode>> {
         }
         ["hex-results", dir] => tell(results::of_hex(Path::new(dir))?)?,
         ["form-results", dir] => tell(results::of_form(Path::new(dir))?)?,
+        ["capture-results", dir] => tell(results::of_captures(Path::new(dir))?)?,
         _ => return Ok(None),
     };
     Ok(Some(code))
@@ -145,6 +152,26 @@ fn form(form: Form) -> io::Result<ExitCode> {
             Ok(ExitCode::FAILURE)
         }
     }
+}
+
+/// The `capture` program: a verdict on standard output.
+fn judge_capture(chip_file: Option<&Path>) -> io::Result<ExitCode> {
+    let lines = chip_file.map_or(Ok(Vec::new()), fs::read)?;
+    let chip = match capture::stated_chip(&lines) {
+        Ok(chip) => chip,
+        Err(told) => {
+            eprintln!("{told}");
+            return Ok(ExitCode::from(COULD_NOT_RUN));
+        }
+    };
+    let input = read_input(capture::MOST_BYTES)?;
+    if input.len() > capture::MOST_BYTES {
+        eprintln!("{}", capture::TOO_LONG);
+        return Ok(ExitCode::from(COULD_NOT_RUN));
+    }
+    let verdict = capture::judge(&input, chip);
+    tell(format!("{verdict}\n"))?;
+    Ok(if verdict == Verdict::Accepted { ExitCode::SUCCESS } else { ExitCode::FAILURE })
 }
 
 /// Standard input, cut one byte past `most`, so that what is too long shows.

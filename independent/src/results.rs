@@ -4,6 +4,7 @@ use std::fs;
 use std::io;
 use std::path::{Path, PathBuf};
 
+use crate::capture;
 use crate::hex;
 use crate::lines::byte_line;
 use crate::sheet::{Form, Jn, move_to};
@@ -58,6 +59,24 @@ pub fn of_form(dir: &Path) -> io::Result<String> {
                 move_to(&sheet, form).map_err(|Jn(number)| format!("form: refused J{number}"));
             text.push_str(&format!("{} {word} {}", name(&path), sheet_or_refusal(result)));
         }
+    }
+    Ok(text)
+}
+
+/// Of every capture the verdict, behind its name. The chip is stated in the
+/// file of the same name with the ending `.chip`, if there is one.
+pub fn of_captures(dir: &Path) -> io::Result<String> {
+    let mut text = String::new();
+    for path in files(dir, "capture")? {
+        let chip_path = path.with_extension("chip");
+        let lines = if chip_path.exists() { fs::read(chip_path)? } else { Vec::new() };
+        let input = fs::read(&path)?;
+        let told = match capture::stated_chip(&lines) {
+            Err(told) => told,
+            Ok(_) if input.len() > capture::MOST_BYTES => String::from(capture::TOO_LONG),
+            Ok(chip) => capture::judge(&input, chip).to_string(),
+        };
+        text.push_str(&format!("{} {told}\n", name(&path)));
     }
     Ok(text)
 }

@@ -1039,3 +1039,172 @@ mod m107_two_writes_to_one_page {
         }
     }
 }
+
+mod m111_other_programmers_captures {
+    use super::*;
+
+    /// Trial 1 from power-on.
+    const SESSION: &str = "\
+!
+> 3A
+> 01 03 9A 00 21 42 03
+< 02 03 06 20 00 D7 03
+> 01 01 00 FF 03
+< 02 01 06 F9 03
+";
+
+    fn verdict(capture: &str) -> String {
+        let Ended { output, errors, status } = ended(&["capture"], capture.as_bytes());
+        let told = String::from_utf8(output).expect("the verdict is text");
+        let due = if told == "accepted\n" { 0 } else { 1 };
+        assert_eq!((errors.as_str(), status), ("", Some(due)), "{told}");
+        String::from(told.trim_end())
+    }
+
+    #[test]
+    fn accepted() {
+        assert_eq!(verdict(SESSION), "accepted");
+        assert_eq!(verdict(&SESSION.to_lowercase()), "accepted");
+        assert_eq!(verdict("!\n"), "accepted");
+        assert_eq!(verdict("!\n!\n> 3b\n> 01 01 00 FF 03\n!\n"), "accepted");
+        assert_eq!(verdict(&format!("{SESSION}{SESSION}")), "accepted");
+        // All answers to a line are one answer.
+        let one = "> 01 01 00 FF 03 01 01 00 FF 03\n< 02 01 06 F9 03 02 01 06 F9 03\n";
+        assert_eq!(verdict(&format!("{SESSION}{one}")), "accepted");
+        // Half a frame has no answer.
+        let halves = "> 01 01\n> 00 FF 03\n< 02 01 06 F9 03\n";
+        assert_eq!(verdict(&format!("{SESSION}{halves}")), "accepted");
+    }
+
+    #[test]
+    fn wrong_lines() {
+        assert_eq!(verdict(""), "wrong line 1");
+        assert_eq!(verdict("> 3A\n"), "wrong line 1");
+        assert_eq!(verdict("< 00\n"), "wrong line 1");
+        // An answer where there is none.
+        assert_eq!(verdict("!\n< 00\n"), "wrong line 2");
+        assert_eq!(verdict("!\n> 3A\n< 00\n"), "wrong line 3");
+        assert_eq!(verdict(&format!("{SESSION}< 02 01 06 F9 03\n")), "wrong line 7");
+        // A byte changed, one more, one less.
+        assert_eq!(verdict(&SESSION.replace("D7", "D6")), "wrong line 4");
+        assert_eq!(verdict(&SESSION.replace("D7 03", "D7 03 00")), "wrong line 4");
+        assert_eq!(verdict(&SESSION.replace("D7 03", "D7")), "wrong line 4");
+        // An answer missing, in the middle and past the end.
+        assert_eq!(verdict(&SESSION.replace("< 02 03 06 20 00 D7 03\n", "")), "wrong line 4");
+        assert_eq!(verdict(&SESSION.replace("< 02 01 06 F9 03\n", "")), "wrong line 6");
+        assert_eq!(verdict(&SESSION.replace("< 02 01 06 F9 03\n", "!\n")), "wrong line 6");
+        // An answer in two lines, and an answer that belongs to two lines.
+        assert_eq!(verdict(&SESSION.replace("F9 03\n", "F9\n< 03\n")), "wrong line 6");
+        let late = "> 01 01 00 FF 03\n> 01 01 00 FF 03\n< 02 01 06 F9 03 02 01 06 F9 03\n";
+        assert_eq!(verdict(&format!("{SESSION}{late}")), "wrong line 8");
+    }
+
+    #[test]
+    fn bad_form() {
+        for line in [
+            "\n",
+            "! \n",
+            " !\n",
+            "!!\n",
+            ">\n",
+            "> \n",
+            "<\n",
+            "< \n",
+            ">3A\n",
+            ">  3A\n",
+            "> 3A \n",
+            "> 3\n",
+            "> 3AA\n",
+            "> 3G\n",
+            "> 3A\r\n",
+            "?\n",
+            "> 3A\t00\n",
+            "! 00\n",
+            "!",
+            "> 3A",
+            "+3A\n",
+            "> +A\n",
+        ] {
+            assert_eq!(verdict(line), "bad form line 1", "{line:?}");
+            assert_eq!(verdict(&format!("{SESSION}{line}")), "bad form line 7", "{line:?}");
+            // Before the comparison of that line: here an answer is missing.
+            let missing = SESSION.replace("< 02 01 06 F9 03\n", line);
+            assert_eq!(verdict(&missing), "bad form line 6", "{line:?}");
+        }
+        // A wrong line before it comes first.
+        assert_eq!(verdict("!\n< 00\n\n"), "wrong line 2");
+    }
+
+    #[test]
+    fn a_stated_chip() {
+        let dir = std::env::temp_dir().join(format!("sheetplay-chip-{}", std::process::id()));
+        std::fs::create_dir_all(&dir).expect("a directory");
+        let path = dir.join("a.chip");
+        let with = |chip: &str, capture: &str| {
+            std::fs::write(&path, chip).expect("the chip file is written");
+            ended(&["capture", path.to_str().expect("a path of text")], capture.as_bytes())
+        };
+        let told = |chip: &str, capture: &str| {
+            let Ended { output, errors, .. } = with(chip, capture);
+            assert_eq!(errors, "");
+            String::from(String::from_utf8(output).expect("text").trim_end())
+        };
+        assert_eq!(told("", SESSION), "accepted");
+        assert_eq!(told("chip large\nfresh\n", SESSION), "accepted");
+        // IFPR 0: Silent. IDEN 0: Reset is not allowed yet.
+        assert_eq!(told("options FF FB FFFF FFFF\n", SESSION), "wrong line 4");
+        assert_eq!(told("options FF FE FFFF FFFF\n", SESSION), "wrong line 6");
+        let window = SESSION.replace("01 01 00 FF", "01 01 AD 52");
+        let small = window.replace("F9 03\n", "F9 03 02 04 00 80 0F 80 ED 03\n");
+        let large = window.replace("F9 03\n", "F9 03 02 04 00 80 3F 80 BD 03\n");
+        assert_eq!(told("chip small\n", &small), "accepted");
+        assert_eq!(told("chip small\n", &large), "wrong line 6");
+        assert_eq!(told("chip 64 32\n", &large), "accepted");
+        // Blank Check of F1000h to F10FFh, and no note on the wire.
+        let blank = SESSION.replace("> 01 01 00 FF 03", "> 01 08 32 00 10 0F FF 10 0F 00 89 03");
+        let dirty = blank.replace("06 F9 03\n", "1B E4 03\n");
+        assert_eq!(told("code 00000 00\n", &blank), "accepted");
+        assert_eq!(told("data F1000 00\n", &dirty), "accepted");
+        assert_eq!(told("chip 16 32\n", SESSION), "refused D0");
+        assert_eq!(with("chip 16 32\n", SESSION).status, Some(1));
+        for (chip, line) in [
+            ("!\n", 1),
+            ("fresh\n?\n", 2),
+            ("fresh\n> 3A\n", 2),
+            ("sheet 00\n", 1),
+            ("fresh", 1),
+            ("chip 1 1\ncode 00000 00\n", 2),
+        ] {
+            let found = with(chip, SESSION);
+            assert_eq!(found.errors, format!("capture: CHIPFILE: bad line {line}\n"));
+            assert_eq!((found.output.len(), found.status), (0, Some(2)));
+        }
+        std::fs::remove_dir_all(dir).expect("the files are removed");
+    }
+
+    #[test]
+    fn too_long_a_capture() {
+        let text = "!\n".repeat(4_194_304 / 2);
+        assert_eq!(verdict(&text), "accepted");
+        let found = ended(&["capture"], format!("{text}!").as_bytes());
+        assert_eq!(found.errors, "capture: input over 4,194,304 bytes\n");
+        assert_eq!((found.output.len(), found.status), (0, Some(2)));
+    }
+
+    #[test]
+    fn files_and_results() {
+        let dir = std::env::temp_dir().join(format!("sheetplay-capture-{}", std::process::id()));
+        let place = dir.to_str().expect("a path of text");
+        assert_eq!(ended(&["generate-files", "capture", "111", "40", place], &[]).status, Some(0));
+        let results = run(&["capture-results", place], &[]);
+        let mut due = String::new();
+        for number in 1..=40 {
+            let capture = std::fs::read(dir.join(format!("{number:04}.capture"))).expect("a file");
+            let chip = dir.join(format!("{number:04}.chip"));
+            let told = run(&["capture", chip.to_str().expect("a path of text")], &capture);
+            due.push_str(&format!("{number:04}.capture {told}"));
+        }
+        assert_eq!(results, due);
+        std::fs::remove_dir_all(dir).expect("the files are removed");
+    }
+}

@@ -10,6 +10,7 @@ use text_read::in_hand;
 use text_read::in_hand::InHand;
 use text_read::line::line_end;
 use text_read::part;
+use text_script::chip_file::lent;
 use text_script::handed;
 use text_script::script_line;
 use text_script::script_line::Line;
@@ -17,7 +18,6 @@ use text_script::send;
 use text_script::session;
 use text_script::session::Session;
 use text_script::show;
-ghost use Prim.Native.Nat.{_≤_};
 
 // What stands between two lines.
 struct Between {
@@ -94,20 +94,6 @@ fn act(
         Line::Sheet => s,
         Line::Play => play(s, sheet, code, data),
     }
-}
-
-// How many bytes of a lent flash are the chip's; of a chip that is not known none are.
-fn lent(chip: Chip, f: Flash, room: usize) -> usize
-    ensures { λ r. ⌜ r ≤ room ⌝ }
-{
-    if !chip_finder::is_known(chip) {
-        return 0;
-    }
-    let size = chip_finder::block_count(chip, f) as usize * chip_finder::block_size(f);
-    if size > room {
-        return room;
-    }
-    size
 }
 
 // A line that names a chip begins a fresh one; any other has the chip's own part of the flashes.

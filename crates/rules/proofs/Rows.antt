@@ -26,6 +26,8 @@ use Rattle.rules.specs.Run.{Joined, Ran, clean, joinedAtStart, run, wait
 use Rattle.rules.specs.Rows.{sameNumber, sameOptions, sameMemory, alike, Exchange, Session, gives, comesLast, stateAfter, exchanged, holds, allHold, Play, reports, noSums, noFrames, meant, ranTo, opened, plays, allPlay, Lending, lentMemory, lends, allLend, Calling, calls, allCall}
 use Rattle.rules.specs.Hex.{madeNumber, madeLine}
 use Rattle.rules.specs.HexTexts.{HexText, lentOut, makingIn, writtenIn, makes, allMake}
+use Rattle.rules.specs.Capture.{captureNumber, captureLine}
+use Rattle.rules.specs.Captures.{Capture, lookedIn, looks, allLook}
 use Rattle.rules.specs.WholeFrame.{frameCall}
 use Rattle.rules.specs.WholeFrames.{Handed, hands, allHand}
 use Rattle.rules.proofs.Bytes.{same-equal}
@@ -370,3 +372,33 @@ pub all-hand : (ts : List Handed) → allHand ts ≡ true → All Hands ts
 unfolding allHand
 all-hand [] e = tt
 all-hand (t ∷ ts) e = let p = both (hands t) (allHand ts) e in (is-handed t (p .0), all-hand ts (p .1))
+
+-- ---- a capture ----
+
+pub record Looks (t : Capture) : Type 0 where
+  pub due : captureNumber (lookedIn t .verdict) ≡ t .due
+  pub line : captureLine (lookedIn t .verdict) ≡ t .line
+  pub options : lookedIn t .options ≡ t .optionsAfter
+  pub memory : lookedIn t .memory ≡ t .memoryAfter
+
+is-looked : (t : Capture) → looks t ≡ true → Looks t
+unfolding looks
+is-looked t h =
+    let r = lookedIn t in
+    let d = sameNumber (captureNumber (r .verdict)) (t .due) in
+    let l = eqb (captureLine (r .verdict)) (t .line) in
+    let o = sameOptions (r .options) (t .optionsAfter) in
+    let c = both (d && l && o) (sameMemory (r .memory) (t .memoryAfter)) h in
+    let b = both (d && l) o (c .0) in
+    let a = both d l (b .0) in
+    record {
+      due = number-equal (captureNumber (r .verdict)) (t .due) (a .0);
+      line = eqb-true (captureLine (r .verdict)) (t .line) (a .1);
+      options = options-equal (r .options) (t .optionsAfter) (b .1);
+      memory = memory-equal (r .memory) (t .memoryAfter) (c .1);
+    }
+
+pub all-look : (ts : List Capture) → allLook ts ≡ true → All Looks ts
+unfolding allLook
+all-look [] e = tt
+all-look (t ∷ ts) e = let p = both (looks t) (allLook ts) e in (is-looked t (p .0), all-look ts (p .1))

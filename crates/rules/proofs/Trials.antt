@@ -5,11 +5,12 @@ use Rattle.rules.specs.Compute.{everything}
 use Rattle.rules.specs.Rows.{comesLast, stateAfter, exchanged, holds, allHold, plays, allPlay, lends, allLend, calls, allCall}
 use Rattle.rules.specs.Starred.{starred}
 use Rattle.rules.specs.Trials.{further, sheets, lengths, playerCalls}
-use Rattle.rules.proofs.Rows.{All, Held, all-held, Played, all-played, Lent, all-lent, Answers, all-answer, Makes, all-made, Hands, all-hand}
+use Rattle.rules.proofs.Rows.{All, Held, all-held, Played, all-played, Lent, all-lent, Answers, all-answer, Makes, all-made, Hands, all-hand, Looks, all-look}
 use Rattle.rules.specs.Texts.{allPrint, printed, texts}
 use Rattle.rules.specs.Blank.{blankChecks}
 use Rattle.rules.specs.BadFrames.{badFrames}
 use Rattle.rules.specs.HexTexts.{makes, allMake, pairsOf, recordOf, oneEach, hexTexts, hexBlocks}
+use Rattle.rules.specs.Captures.{looks, allLook, rowText, lineText, captures}
 use Rattle.rules.specs.WholeFrames.{hands, allHand, wholeFrames}
 use Rattle.rules.specs.Chips.{chipLengths, chipSessions, chipSheets}
 use Rattle.rules.specs.Twice.{entriesLaid, bodiesLaid, twiceSheets, oncePlays}
@@ -107,6 +108,11 @@ pub whole-frames : allHand wholeFrames ≡ true
 unfolding everything hands allHand wholeFrames
 whole-frames = refl
 
+-- M-111: captures and the verdicts on them
+pub capture-trials : allLook captures ≡ true
+unfolding everything looks allLook rowText lineText captures
+capture-trials = refl
+
 -- ---- what the rows say ----
 
 pub starred-say : All Held starred
@@ -153,3 +159,6 @@ hex-blocks-say = all-made hexBlocks hex-block-trials
 
 pub whole-frames-say : All Hands wholeFrames
 whole-frames-say = all-hand wholeFrames whole-frames
+
+pub captures-say : All Looks captures
+captures-say = all-look captures capture-trials

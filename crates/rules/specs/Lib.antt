@@ -15,6 +15,7 @@ pub mod Run
 pub mod Text
 pub mod Lines
 pub mod Hex
+pub mod Capture
 pub mod Compute
 pub mod Rows
 pub mod Starred
@@ -24,6 +25,7 @@ pub mod Chips
 pub mod Blank
 pub mod BadFrames
 pub mod HexTexts
+pub mod Captures
 pub mod WholeFrames
 pub mod Twice
 pub mod Forms

@@ -1,5 +1,6 @@
 // The vocabulary: the types that promises speak of. What they mean stands in specs/, in document 01's order.
 
+pub mod capture;
 pub mod hex;
 pub mod numbers;
 

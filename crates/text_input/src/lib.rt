@@ -1,4 +1,4 @@
-// Standard input, read to its end; an input that cannot be read is told from one that ends.
+// Standard input or a file, read to its end; an input that cannot be read is told from one that ends.
 
 // How many bytes were read, or that a read failed.
 pub enum Input {
@@ -6,11 +6,11 @@ pub enum Input {
     Failed,
 }
 
-// Reads until the input ends or the buffer is full.
-pub fn read(buffer: &mut [u8]) -> Input {
+// Reads what that descriptor stands for until it ends or the buffer is full.
+pub fn read_from(fd: i32, buffer: &mut [u8]) -> Input {
     let mut done = 0;
     while done < buffer.len() {
-        let got = libc::read(libc::STDIN_FILENO, &mut buffer[done..]);
+        let got = libc::read(fd, &mut buffer[done..]);
         if got < 0 {
             return Input::Failed;
         }
@@ -21,4 +21,9 @@ pub fn read(buffer: &mut [u8]) -> Input {
         done += n;
     }
     Input::Read(done)
+}
+
+// Standard input.
+pub fn read(buffer: &mut [u8]) -> Input {
+    read_from(libc::STDIN_FILENO, buffer)
 }

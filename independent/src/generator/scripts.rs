@@ -16,39 +16,59 @@ use crate::standin::{DuePage, Phase};
 pub fn generate(seed: u64, count: u64) -> String {
     let mut tape = Tape::new(Answers::new());
     for case in 0..count {
-        let random = Random::for_case(seed, case);
-        let mut random = random;
+        let mut random = Random::for_case(seed, case);
         let hand_percent = random.pick(&[0, 0, 0, 25, 70]);
-        Script { tape: &mut tape, random, sent: 0, span: None, hand_percent }.write();
+        Script::new(&mut tape, &mut random, hand_percent).write();
     }
     tape.text
 }
 
+/// Power-ons and bytes alone, to the chip that the tape has.
+pub fn session(tape: &mut Tape<Answers>, random: &mut Random, budget: usize) {
+    let mut script = Script::new(tape, random, 0);
+    script.of_bytes_alone = true;
+    script.turns(budget);
+}
+
 struct Script<'a> {
     tape: &'a mut Tape<Answers>,
-    random: Random,
+    random: &'a mut Random,
     /// Bytes sent so far.
     sent: usize,
     /// The blocks that a command named last.
     span: Option<Span>,
     /// How often frames are handed over whole.
     hand_percent: usize,
+    /// Whether only power-ons and bytes come, and the chip stays.
+    of_bytes_alone: bool,
 }
 
-impl Script<'_> {
+impl<'a> Script<'a> {
+    fn new(tape: &'a mut Tape<Answers>, random: &'a mut Random, hand_percent: usize) -> Script<'a> {
+        Script { tape, random, sent: 0, span: None, hand_percent, of_bytes_alone: false }
+    }
+
     fn write(&mut self) {
         if self.random.one_in(25) {
-            counts::write(self.tape, &mut self.random);
+            counts::write(self.tape, self.random);
         }
         if self.random.one_in(5) {
-            releases::write(self.tape, &mut self.random);
+            releases::write(self.tape, self.random);
         }
         if self.random.one_in(4) {
-            blanks::write(self.tape, &mut self.random);
+            blanks::write(self.tape, self.random);
         }
         self.take_chip();
         self.prepare();
         let budget = self.random.between(100, 1_700);
+        self.turns(budget);
+        if self.random.chance(60) {
+            self.tape.line("?");
+        }
+    }
+
+    /// Turns until some bytes are sent.
+    fn turns(&mut self, budget: usize) {
         let most_turns = 300;
         for _ in 0..most_turns {
             if self.sent >= budget {
@@ -58,9 +78,6 @@ impl Script<'_> {
             if self.phase() == Phase::Silent && self.random.chance(8) {
                 break;
             }
-        }
-        if self.random.chance(60) {
-            self.tape.line("?");
         }
     }
 
@@ -73,22 +90,22 @@ impl Script<'_> {
     }
 
     fn take_chip(&mut self) {
-        let line = fresh_line(&mut self.random);
+        let line = fresh_line(self.random);
         self.tape.line(&line);
         self.span = None;
     }
 
     fn prepare(&mut self) {
         let model = self.model();
-        let preparation = Preparation::random(&mut self.random, model);
+        let preparation = Preparation::random(self.random, model);
         self.tape.lines(&preparation.lines());
     }
 
     fn turn(&mut self) {
-        if self.random.chance(4) {
+        if !self.of_bytes_alone && self.random.chance(4) {
             self.tape.line("?");
         }
-        if self.random.chance(2) {
+        if !self.of_bytes_alone && self.random.chance(2) {
             self.prepare();
             if self.random.chance(40) {
                 self.tape.line("?");
@@ -139,7 +156,7 @@ impl Script<'_> {
                 if self.random.chance(80) {
                     self.tape.line("!");
                 }
-                if self.random.chance(25) {
+                if !self.of_bytes_alone && self.random.chance(25) {
                     // IFPR may be 0 for good: begin again with other options.
                     self.take_chip();
                 }
@@ -205,7 +222,7 @@ impl Script<'_> {
     fn whole_frame(&mut self) -> Vec<u8> {
         match self.tape.runner.chip().due_page() {
             Some(due) if self.random.chance(30) => {
-                page_frame(&random_body(&mut self.random, due.page.length), due.last)
+                page_frame(&random_body(self.random, due.page.length), due.last)
             }
             Some(due) => {
                 let body = self.random.bytes(3);
@@ -266,7 +283,7 @@ impl Script<'_> {
     fn ident_command(&mut self) -> Vec<u8> {
         let mut id = self.tape.runner.chip().flash.connection_id().to_vec();
         if self.random.chance(15) {
-            change_byte(&mut self.random, &mut id);
+            change_byte(self.random, &mut id);
         }
         frames::command(code::IDENT, &id)
     }
@@ -295,7 +312,7 @@ impl Script<'_> {
     /// SAD and EAD, mostly valid.
     fn some_pair(&mut self) -> (u32, u32) {
         if self.random.chance(15) {
-            return bad_pair(&mut self.random, self.tape.runner.chip().model());
+            return bad_pair(self.random, self.tape.runner.chip().model());
         }
         let span = self.some_span(3);
         (span.first_address(), span.last_address())
@@ -303,7 +320,7 @@ impl Script<'_> {
 
     fn blank_check(&mut self) -> Vec<u8> {
         let (sad, ead) = self.some_pair();
-        frames::blank_check(sad, ead, blanks::random_tar(&mut self.random))
+        frames::blank_check(sad, ead, blanks::random_tar(self.random))
     }
 
     fn pair_command(&mut self, code: u8) -> Vec<u8> {
@@ -318,9 +335,9 @@ impl Script<'_> {
         {
             return span;
         }
-        let area = random_area(&mut self.random);
+        let area = random_area(self.random);
         let model = self.model();
-        let span = random_span(&mut self.random, model, area, most_blocks);
+        let span = random_span(self.random, model, area, most_blocks);
         self.span = Some(span);
         span
     }
@@ -339,7 +356,7 @@ impl Script<'_> {
     }
 
     fn security_set(&mut self) -> Vec<u8> {
-        let mut options = random_options(&mut self.random);
+        let mut options = random_options(self.random);
         options.sf2 &= !crate::options::IFPR;
         if self.random.chance(85) {
             options.sf2 |= crate::options::IFPR;
@@ -349,7 +366,7 @@ impl Script<'_> {
     }
 
     fn window_set(&mut self) -> Vec<u8> {
-        let options = random_options(&mut self.random);
+        let options = random_options(self.random);
         let words = [options.sws.to_le_bytes(), options.swe.to_le_bytes()].concat();
         frames::command(code::WINDOW_SET, &words)
     }
@@ -441,12 +458,12 @@ impl Script<'_> {
             return;
         }
         let mut page = if due.writes {
-            random_body(&mut self.random, due.page.length)
+            random_body(self.random, due.page.length)
         } else {
             self.tape.runner.chip().flash.part(due.page).to_vec()
         };
         if !due.writes && self.random.chance(20) {
-            change_byte(&mut self.random, &mut page);
+            change_byte(self.random, &mut page);
         }
         let mut frame = page_frame(&page, due.last);
         let damage_percent = if due.failed_before { 40 } else { 14 };

@@ -1,0 +1,4 @@
+pub mod Lines
+pub mod Classes
+pub mod Theorem
+pub mod Recordings

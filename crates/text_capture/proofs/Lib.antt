@@ -1,0 +1,6 @@
+pub mod Signs
+pub mod Matches
+pub mod Hearing
+pub mod Judging
+pub mod Telling
+pub mod Outcomes

@@ -124,8 +124,10 @@ static void choose(enum kind kind, int proved)
     if (kind == PLAY_ALL)
         play_called = proved ? rattle_play : plain_play;
     on_large = kind == LARGE && proved;
-    if (kind == LARGE)
+    if (kind == LARGE) {
         play_called = proved ? rattle_play_large : rattle_play;
+        sheet[2] = proved ? 2 : 1;
+    }
     if (on_large) {
         memset(large_code, 0xFF, LARGE_CODE);
         memset(large_data, 0xFF, LARGE_DATA);
@@ -260,6 +262,17 @@ static void sheet_begin(size steps)
     sheet[0] = steps;
     sheet[1] = 0;
     sheet_n = 2 + 12 * steps;
+}
+
+static void sheet_begin_two(size steps, u8 chip)
+{
+    static const u8 begins[4] = {0xFE, 0x02};
+    sheet_head = 6;
+    memcpy(sheet, begins, 4);
+    sheet[2] = chip;
+    sheet[4] = steps;
+    sheet[5] = 0;
+    sheet_n = 6 + 12 * steps;
 }
 
 static void sheet_step(size i, u8 kind, u32 sad, u32 ead)
@@ -434,10 +447,10 @@ static void sheet_largest(void)
     memcpy(sheet + 254 + 248 * PAGE, sheet + 254 + 128 * PAGE, 7 * PAGE);
 }
 
-// Code blocks erased, written and verified, from the first on: accepted on either chip.
+// Code blocks erased, written and verified, from the first on: accepted on the chip that it names, and `choose` has it name the one it is played to.
 static void sheet_both(size blocks)
 {
-    sheet_begin(3);
+    sheet_begin_two(3, 1);
     for (u8 kind = 1; kind < 4; kind++)
         sheet_step(kind - 1, kind, 0, code_at(blocks) - 1);
 }
@@ -802,17 +815,6 @@ static struct run random_session(void)
 }
 
 // form 2, for a chip with that number
-static void sheet_begin_two(size steps, u8 chip)
-{
-    static const u8 begins[4] = {0xFE, 0x02};
-    sheet_head = 6;
-    memcpy(sheet, begins, 4);
-    sheet[2] = chip;
-    sheet[4] = steps;
-    sheet[5] = 0;
-    sheet_n = 6 + 12 * steps;
-}
-
 // a lock, most of the time one that leaves IFPR as it is, with its filler
 static void random_lock(size i)
 {

@@ -1,0 +1,5 @@
+pub mod Words
+pub mod Steps
+pub mod Map
+pub mod Refused
+pub mod Show

@@ -10,7 +10,7 @@ ghost use mathlib.Core.Path.{_≡_};
 ghost use Prim.Native.Nat.{_+_, _-_, _*_, _<_, _≤_};
 ghost use lib.Dec.{eqb};
 ghost use lib.ListN.{length};
-ghost use Rattle.rules.specs.Chip.{known, blockSize, start, blocks, flashSize, pagesPerBlock, pageSize, pages, flashOf, firstByte, lastByte, eraseAddress, range, nowhere, invalid, shown, blockShown, pageShown};
+ghost use Rattle.rules.specs.Chip.{sameCounts, known, blockSize, start, blocks, flashSize, pagesPerBlock, pageSize, pages, flashOf, firstByte, lastByte, eraseAddress, range, nowhere, invalid, shown, blockShown, pageShown};
 ghost use Rattle.chip_finder.specs.LentFlashes.{memory, rangeShown};
 ghost use Rattle.chip_finder.specs.OneFlash.{spotIn, spotOf, byteIn, pairOf, heldIn, placeOf, partsShown};
 ghost use Rattle.chip_finder.specs.Held.{blocksHeld};
@@ -31,17 +31,24 @@ pub fn large() -> Chip
     Chip { code: 64, data: 32 }
 }
 
+// Whether two chips have the same counts.
+pub fn same_counts(a: Chip, b: Chip) -> bool
+    ensures { λ r. ⌜ r ≡ sameCounts a b ⌝ }
+{
+    if a.code == b.code {
+        return a.data == b.data;
+    }
+    false
+}
+
 // A chip with other counts than these two is none.
 pub fn is_known(chip: Chip) -> bool
     ensures { λ r. ⌜ r ≡ known chip ⌝ }
 {
-    if chip.code == 16 {
-        return chip.data == 8;
+    if same_counts(chip, small()) {
+        return true;
     }
-    if chip.code == 64 {
-        return chip.data == 32;
-    }
-    false
+    same_counts(chip, large())
 }
 
 pub fn block_size(f: Flash) -> usize

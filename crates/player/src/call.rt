@@ -1,20 +1,24 @@
 // A player call: the reply is taken in, the next frame given.
 use crate::report::report;
 use player_absorb::absorb_or_lost;
-use player_emit::emit;
+use player_emit::emit_step;
 use rules::Chip;
 use rules::FRAME_ROOM;
 use rules::Next;
 use rules::Player;
 use rules::Refusal;
 use rules::Report;
+use rules::Step;
 use rules::Verdict;
 use sheet::judge::verdict;
+use sheet::steps::step_at;
+use sheet::table::count;
 ghost use mathlib.Core.Path.{_≡_};
 ghost use mathlib.Core.Bool.{cond};
 ghost use lib.Dec.{eqb};
 ghost use Rattle.rules.specs.declared.Next.the-variants.{Refused, Frame, End};
 ghost use Rattle.rules.specs.Numbers.{nextNumber, statusNumber};
+ghost use Rattle.rules.specs.Sheet.{stepAt};
 ghost use Rattle.rules.specs.Player.{reportOf, called};
 ghost use Rattle.player.specs.Calls.{calledAs};
 
@@ -45,6 +49,16 @@ fn next_of(sent: usize) -> Next
     Next::Frame(sent)
 }
 
+// Step i of the sheet, for a caller that has read step `read`: mostly it is the same one.
+fn step_now(chip: Chip, sheet: &[u8], read: usize, t: Step, i: usize) -> Step
+    ensures { λ r. ⌜ (t ≡ stepAt chip (now (sheet .entry)) read → r ≡ stepAt chip (now (sheet .entry)) i) ⌝ }
+{
+    if i == read {
+        return t;
+    }
+    step_at(chip, sheet, i)
+}
+
 // A player call: refused by J, P1 or P2, in that order; else the next frame or the end.
 pub fn next(
     chip: Chip,
@@ -68,7 +82,9 @@ pub fn next(
     if took.lost {
         return stands(p, Refusal::P2);
     }
-    let given = emit(chip, sheet, took.player, frame);
+    let after = took.player;
+    let t = step_now(chip, sheet, p.step, took.step, after.step);
+    let given = emit_step(count(sheet), sheet, t, after, frame);
     let player = given.player;
     Called {
         player,

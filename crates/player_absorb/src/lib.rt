@@ -230,10 +230,11 @@ fn absorb_in(chip: Chip, sheet: &[u8], t: Step, p: Player, reply: &[u8], sums: &
     }
 }
 
-// A player after a reply, and whether it was lost before: then it stands.
+// A player after a reply, and whether it was lost before: then it stands. And the step that it was in, so that a caller need not read it again.
 pub struct AbsorbedOrLost {
     pub lost: bool,
     pub player: Player,
+    pub step: Step,
 }
 
 // A reply is taken in; a player whose step, block or page is not in the sheet stands.
@@ -245,6 +246,7 @@ pub fn absorb_or_lost(
     sums: &mut [u16],
 ) -> AbsorbedOrLost
     ensures { λ r. ⌜ r .lost ≡ lost chip (now (sheet .entry)) p ⌝ }
+    ensures { λ r. ⌜ r .step ≡ stepAt chip (now (sheet .entry)) (p .step) ⌝ }
     ensures { λ r. ⌜ absorbs (r .player) (now (sums .exit)) ≡ absorbedIn chip (now (sheet .entry)) p (now (reply .entry)) (now (sums .entry)) ⌝ }
 {
     let t = step_at(chip, sheet, p.step);
@@ -252,12 +254,14 @@ pub fn absorb_or_lost(
         return AbsorbedOrLost {
             lost: true,
             player: p,
+            step: t,
         };
     }
     let player = absorb_in(chip, sheet, t, p, reply, sums);
     AbsorbedOrLost {
         lost: false,
         player,
+        step: t,
     }
 }
 

@@ -19,14 +19,14 @@ use Rattle.rules.specs.declared.Step.{Step}
 use Rattle.rules.specs.declared.Verdict.the-variants.{Accepted}
 use Rattle.rules.specs.Chip.{over, pageSize}
 use Rattle.rules.specs.Frame.{frame}
-use Rattle.rules.specs.Sheet.{stepAt, bodyPage, verdict}
-use Rattle.rules.specs.Player.{pageFrame, emitBy, emitted, lost}
+use Rattle.rules.specs.Sheet.{count, stepAt, bodyPage, verdict}
+use Rattle.rules.specs.Player.{pageFrame, emitBy, emitted, lostIn, lost}
 use Rattle.sheet.proofs.Accepted.{Inside, sound, page-inside}
 use Rattle.frame_build.specs.Buffer.{Put, put, putBytes}
 use Rattle.frame_build.proofs.Buffers.{bytes-fit}
 use Rattle.player_laws.proofs.Lengths.{frame-short}
 use Rattle.player_laws.proofs.PlaceInSheet.{Paging, page-stands}
-use Rattle.player_emit.specs.Emitting.{emitting, emittingBy, pageThere, pageInto, emittedIntoBy, emittedInto}
+use Rattle.player_emit.specs.Emitting.{emitting, emittingBy, pageThere, pageInto, emittedIntoBy, emittedAt, emittedInto}
 
 -- ---- bytes put over the first of a buffer ----
 
@@ -66,19 +66,19 @@ module _ (k : Kind) (s : List ℕ) (t : Step) (p : Player) (buffer : List ℕ) w
 
 -- ---- the whole ----
 
-module _ (chip : Chip) (s : List ℕ) (p : Player) (buffer : List ℕ) where
-  pub no-room : length buffer < 260 → emittedInto chip s p buffer ≡ emitting p 0 buffer
-  unfolding emittedInto
+module _ (n : ℕ) (t : Step) (s : List ℕ) (p : Player) (buffer : List ℕ) where
+  pub no-room : length buffer < 260 → emittedAt n t s p buffer ≡ emitting p 0 buffer
+  unfolding emittedAt
   no-room h = rw (lt-ltb (length buffer) 260 h)
 
   module _ (room : 260 ≤ length buffer) where
-    pub into-lost : lost chip s p ≡ true → emittedInto chip s p buffer ≡ emitting p 0 buffer
-    unfolding emittedInto
-    into-lost h = rw (le-ltb (length buffer) 260 room, h)
+    pub at-lost : lostIn (p .stage) n t p ≡ true → emittedAt n t s p buffer ≡ emitting p 0 buffer
+    unfolding emittedAt
+    at-lost h = rw (le-ltb (length buffer) 260 room, h)
 
-    pub into-in : lost chip s p ≡ false → emittedInto chip s p buffer ≡ emittedIntoBy (p .stage) s (stepAt chip s (p .step)) p buffer
-    unfolding emittedInto
-    into-in h = rw (le-ltb (length buffer) 260 room, h)
+    pub at-in : lostIn (p .stage) n t p ≡ false → emittedAt n t s p buffer ≡ emittedIntoBy (p .stage) s t p buffer
+    unfolding emittedAt
+    at-in h = rw (le-ltb (length buffer) 260 room, h)
 
 -- a body that is read lies in the sheet
 paging-inside : (s : List ℕ) (t : Step) (k : Kind) → t .kind ≡ k → Paging k
@@ -92,9 +92,9 @@ pub into-emitted : (chip : Chip) (s : List ℕ) (p : Player) (buffer : List ℕ)
     → 260 ≤ length buffer
     → lost chip s p ≡ false
     → emittedInto chip s p buffer ≡ emittingBy (emitted chip s p) buffer
-unfolding emitted emittedIntoBy emitBy over
+unfolding lost emitted emittedIntoBy emitBy over
 into-emitted chip s p buffer sums ok room h =
-    into-in chip s p buffer room h ∙ go (p .stage) refl
+    at-in (count s) t s p buffer room h ∙ go (p .stage) refl
   where
     t : Step
     t = stepAt chip s (p .step)

@@ -13,8 +13,8 @@ use Rattle.rules.specs.declared.Stage.the-variants.{New, Ready, Block, Commande
 use Rattle.rules.specs.declared.Player.{Player}
 use Rattle.rules.specs.declared.Step.{Step}
 use Rattle.rules.specs.Chip.{over, pageSize}
-use Rattle.rules.specs.Sheet.{stepAt}
-use Rattle.rules.specs.Player.{Sent, sends, firstCommand, blockCommand, pageFrame, lost, frameRoom}
+use Rattle.rules.specs.Sheet.{count, stepAt}
+use Rattle.rules.specs.Player.{Sent, sends, firstCommand, blockCommand, pageFrame, lostIn, frameRoom}
 
 -- the player after a frame, how many bytes were given, and the buffer
 pub record Emitting : Type 0 where
@@ -45,9 +45,13 @@ emittedIntoBy (Page k) s t p buffer = pageInto k s t p buffer
 emittedIntoBy (Paged k) s t p buffer = emitting p 0 buffer
 emittedIntoBy Over s t p buffer = emitting p 0 buffer
 
--- THE NEXT FRAME IS GIVEN
-unfoldable pub emittedInto : Chip → List ℕ → Player → List ℕ → Emitting
-emittedInto chip s p buffer =
+-- a frame is given in step t of n, whatever sheet they are of
+unfoldable pub emittedAt : ℕ → Step → List ℕ → Player → List ℕ → Emitting
+emittedAt n t s p buffer =
     cond (ltb (length buffer) frameRoom)
     (emitting p 0 buffer)
-    (cond (lost chip s p) (emitting p 0 buffer) (emittedIntoBy (p .stage) s (stepAt chip s (p .step)) p buffer))
+    (cond (lostIn (p .stage) n t p) (emitting p 0 buffer) (emittedIntoBy (p .stage) s t p buffer))
+
+-- THE NEXT FRAME IS GIVEN
+abbrev pub emittedInto : Chip → List ℕ → Player → List ℕ → Emitting
+emittedInto chip s p buffer = emittedAt (count s) (stepAt chip s (p .step)) s p buffer

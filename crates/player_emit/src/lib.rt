@@ -27,12 +27,12 @@ ghost use mathlib.Core.Bool.{false};
 ghost use mathlib.Core.List.{[], _∷_, _++_};
 ghost use Prim.Native.Nat.{_+_, _*_, _<_, _≤_};
 ghost use lib.ListN.{length, take};
-ghost use Rattle.rules.specs.Sheet.{stepAt, stepBlocks, stepPages};
-ghost use Rattle.rules.specs.Player.{player, counted, sends, command, pairBytes, lockCommand, blockCommand, firstCommand, pageFrame, lost};
+ghost use Rattle.rules.specs.Sheet.{stepBlocks, stepPages};
+ghost use Rattle.rules.specs.Player.{player, counted, sends, command, pairBytes, lockCommand, blockCommand, firstCommand, pageFrame, lostIn};
 ghost use Rattle.frame_build.specs.Buffer.{put, putBytes};
 ghost use Rattle.rules.specs.declared.Kind.the-variants.{Erase};
 ghost use Rattle.rules.specs.declared.Stage.the-variants.{Commanded};
-ghost use Rattle.player_emit.specs.Emitting.{emitting, emittingBy, pageThere, pageInto, emittedIntoBy, emittedInto};
+ghost use Rattle.player_emit.specs.Emitting.{emitting, emittingBy, pageThere, pageInto, emittedIntoBy, emittedAt, emittedInto};
 
 // The codes of the two steps that form 2 adds.
 const BLANK_CHECK: u8 = 0x32;
@@ -202,9 +202,9 @@ fn emit_page(kind: Kind, sheet: &[u8], t: Step, p: Player, frame: &mut [u8]) -> 
     }
 }
 
-// By stage, in the player's step `t` of the sheet.
-fn emit_in(chip: Chip, sheet: &[u8], t: Step, p: Player, frame: &mut [u8]) -> Emitted
-    requires { ⌜ (260 ≤ length (now frame)) × (stepAt chip (now sheet) (p .step) ≡ t) × (lost chip (now sheet) p ≡ false) ⌝ }
+// By stage, in the player's step `t` of n.
+fn emit_in(n: usize, sheet: &[u8], t: Step, p: Player, frame: &mut [u8]) -> Emitted
+    requires { ⌜ (260 ≤ length (now frame)) × (lostIn (p .stage) n t p ≡ false) ⌝ }
     ensures { λ r. ⌜ emitting (r .player) (r .sent) (now (frame .exit)) ≡ emittedIntoBy (p .stage) (now (sheet .entry)) t p (now (frame .entry)) ⌝ }
 {
     let stage = p.stage;
@@ -219,17 +219,24 @@ fn emit_in(chip: Chip, sheet: &[u8], t: Step, p: Player, frame: &mut [u8]) -> Em
     }
 }
 
-// The next frame. Nothing is given, and the buffer keeps its contents, where it is under 260 bytes or the step, block or page is
-// not in the sheet; in an accepted sheet each page of a body is.
-pub fn emit(chip: Chip, sheet: &[u8], p: Player, frame: &mut [u8]) -> Emitted
-    ensures { λ r. ⌜ emitting (r .player) (r .sent) (now (frame .exit)) ≡ emittedInto chip (now (sheet .entry)) p (now (frame .entry)) ⌝ }
+// The next frame in step `t` of n, for a caller that has read the step. Nothing is given, and the buffer keeps its contents, where it is under 260
+// bytes or the step, block or page is not there.
+pub fn emit_step(n: usize, sheet: &[u8], t: Step, p: Player, frame: &mut [u8]) -> Emitted
+    ensures { λ r. ⌜ emitting (r .player) (r .sent) (now (frame .exit)) ≡ emittedAt n t (now (sheet .entry)) p (now (frame .entry)) ⌝ }
 {
     if frame.len() < FRAME_ROOM {
         return nothing(p);
     }
-    let t = step_at(chip, sheet, p.step);
-    if is_lost(count(sheet), t, p) {
+    if is_lost(n, t, p) {
         return nothing(p);
     }
-    emit_in(chip, sheet, t, p, frame)
+    emit_in(n, sheet, t, p, frame)
+}
+
+// The next frame, of the player's step in the sheet; in an accepted sheet each page of a body is there.
+pub fn emit(chip: Chip, sheet: &[u8], p: Player, frame: &mut [u8]) -> Emitted
+    ensures { λ r. ⌜ emitting (r .player) (r .sent) (now (frame .exit)) ≡ emittedInto chip (now (sheet .entry)) p (now (frame .entry)) ⌝ }
+{
+    let t = step_at(chip, sheet, p.step);
+    emit_step(count(sheet), sheet, t, p, frame)
 }

@@ -64,42 +64,63 @@ first-in Sum t h = refl
 first-in Blank t h = refl
 first-in Lock t h = refl
 
-module _ (chip : Chip) (s : List ℕ) (p : Player) (t : Step) (here : stepAt chip s (p .step) ≡ t) where
-  -- ---- not lost: what is known ----
+-- ---- not lost: what is known, of any step t of n ----
 
+module _ (n : ℕ) (t : Step) (p : Player) where
   -- of a step begun
-  begun : (k : Kind) (x : Bool) → not (stepIn k (count s) t p && x) ≡ false → (p .step < count s) × (t .kind ≡ k) × (x ≡ true)
+  begun : (k : Kind) (x : Bool) → not (stepIn k n t p && x) ≡ false → (p .step < n) × (t .kind ≡ k) × (x ≡ true)
   begun k x e =
-      let a = both (stepIn k (count s) t p) x (not-false (stepIn k (count s) t p && x) e) in
-      let b = both (ltb (p .step) (count s)) (eqb (kindNumber k) (kindNumber (t .kind))) (a .0) in
-      (ltb-true (p .step) (count s) (b .0), same-kind k (t .kind) (eqb-true (kindNumber k) (kindNumber (t .kind)) (b .1)), a .1)
+      let a = both (stepIn k n t p) x (not-false (stepIn k n t p && x) e) in
+      let b = both (ltb (p .step) n) (eqb (kindNumber k) (kindNumber (t .kind))) (a .0) in
+      (ltb-true (p .step) n (b .0), same-kind k (t .kind) (eqb-true (kindNumber k) (kindNumber (t .kind)) (b .1)), a .1)
 
-  module _ (h : lost chip s p ≡ false) where
-    pub block-stands : p .stage ≡ Block → (p .step < count s) × (t .kind ≡ Erase) × (p .at < stepBlocks t)
-    unfolding lost lostIn commandIn
-    block-stands g =
-        let a = begun Erase (ltb (p .at) (stepBlocks t)) (rw (g, here) at h) in
+  module _ (h : lostIn (p .stage) n t p ≡ false) where
+    pub block-found : p .stage ≡ Block → (p .step < n) × (t .kind ≡ Erase) × (p .at < stepBlocks t)
+    unfolding lostIn commandIn
+    block-found g =
+        let a = begun Erase (ltb (p .at) (stepBlocks t)) (rw g at h) in
         (a .0, a .1, ltb-true (p .at) (stepBlocks t) (a .2))
 
     module _ {k : Kind} where
-      pub commanded-stands : p .stage ≡ Commanded k → (p .step < count s) × (t .kind ≡ k) × (commandIn k t (p .at) ≡ true)
-      unfolding lost lostIn
-      commanded-stands g = begun k (commandIn k t (p .at)) (rw (g, here) at h)
+      pub commanded-found : p .stage ≡ Commanded k → (p .step < n) × (t .kind ≡ k) × (commandIn k t (p .at) ≡ true)
+      unfolding lostIn
+      commanded-found g = begun k (commandIn k t (p .at)) (rw g at h)
 
-      paging : not (stepIn k (count s) t p && pageIn k t (p .at)) ≡ false
-          → (p .step < count s) × (t .kind ≡ k) × Paging k × (p .at < stepPages t)
+      paging : not (stepIn k n t p && pageIn k t (p .at)) ≡ false
+          → (p .step < n) × (t .kind ≡ k) × Paging k × (p .at < stepPages t)
       paging e =
           let a = begun k (pageIn k t (p .at)) e in
           let b = page-in k t (p .at) (a .2) in
           (a .0, a .1, b .0, b .1)
 
+      pub page-found : p .stage ≡ Page k → (p .step < n) × (t .kind ≡ k) × Paging k × (p .at < stepPages t)
+      unfolding lostIn
+      page-found g = paging (rw g at h)
+
+      pub paged-found : p .stage ≡ Paged k → (p .step < n) × (t .kind ≡ k) × Paging k × (p .at < stepPages t)
+      unfolding lostIn
+      paged-found g = paging (rw g at h)
+
+module _ (chip : Chip) (s : List ℕ) (p : Player) (t : Step) (here : stepAt chip s (p .step) ≡ t) where
+  -- ---- the same, of the sheet's own step ----
+
+  module _ (h : lost chip s p ≡ false) where
+    in-step : lostIn (p .stage) (count s) t p ≡ false
+    unfolding lost
+    in-step = rw here at h
+
+    pub block-stands : p .stage ≡ Block → (p .step < count s) × (t .kind ≡ Erase) × (p .at < stepBlocks t)
+    block-stands = block-found (count s) t p in-step
+
+    module _ {k : Kind} where
+      pub commanded-stands : p .stage ≡ Commanded k → (p .step < count s) × (t .kind ≡ k) × (commandIn k t (p .at) ≡ true)
+      commanded-stands = commanded-found (count s) t p in-step
+
       pub page-stands : p .stage ≡ Page k → (p .step < count s) × (t .kind ≡ k) × Paging k × (p .at < stepPages t)
-      unfolding lost lostIn
-      page-stands g = paging (rw (g, here) at h)
+      page-stands = page-found (count s) t p in-step
 
       pub paged-stands : p .stage ≡ Paged k → (p .step < count s) × (t .kind ≡ k) × Paging k × (p .at < stepPages t)
-      unfolding lost lostIn
-      paged-stands g = paging (rw (g, here) at h)
+      paged-stands = paged-found (count s) t p in-step
 
     pub erased-stands : p .stage ≡ Commanded Erase → (p .step < count s) × (p .at < stepBlocks t)
     unfolding commandIn

@@ -1,6 +1,11 @@
 -- The tables of trials hold, by computing them; and so every column of every row is an equation. Assumes nothing.
 use mathlib.Core.Path.{_≡_, refl}
 use mathlib.Core.Bool.{true}
+use lib.ListN.{replicate}
+use Rattle.rules.specs.declared.Flash.the-variants.{Code}
+use Rattle.rules.specs.declared.Note.the-variants.{Empty}
+use Rattle.rules.specs.Chip.{block}
+use Rattle.rules.specs.Command.{usedFrom}
 use Rattle.rules.specs.Compute.{everything}
 use Rattle.rules.specs.Rows.{comesLast, stateAfter, exchanged, holds, allHold, plays, allPlay, lends, allLend, calls, allCall}
 use Rattle.rules.specs.Starred.{starred}
@@ -88,6 +93,11 @@ once-plays = refl
 pub blank-checks : allHold blankChecks ≡ true
 unfolding everything comesLast stateAfter exchanged holds allHold blankChecks
 blank-checks = refl
+
+-- of a part that is blank there is no byte to tell, also where nobody asks a command
+pub blank-part : usedFrom Code (block 3) (replicate 5 0xFF) ≡ Empty
+unfolding everything
+blank-part = refl
 
 -- M-101: bad frames, and which fault the note names
 pub bad-frames : allHold badFrames ≡ true

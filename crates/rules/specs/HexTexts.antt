@@ -93,17 +93,15 @@ hexTexts =
     givesSheet end 4 2 (0x00 ∷ 0x00 ∷ [])
     ∷ refusedAs [] 7 0
     ∷ refusedAs (ascii ":00000001FF") 1 1
-    -- 16 bytes of data flash, in a buffer that is longer, just as long and one byte short
+    -- 16 bytes of data flash, in a buffer that is longer and in one that is a byte short
     ∷ givesSheet sixteen 600 550 sixteenSheet
-    ∷ givesSheet sixteen 550 550 sixteenSheet
     ∷ record { text = sixteen; room = 549; due = H 10; line = 0; front = [] }
-    -- the last byte of a code block, in lower case and with CR LF; two bytes over the edge of two blocks
+    -- two bytes over the edge of two code blocks, in lower case and with CR LF; the buffer is just as long as the sheet
     ∷ givesSheet
-    (ascii ":0107ff00ab4e" ++ (0x0D ∷ 0x0A ∷ []) ++ end)
-    4134
-    4134
-    (0x03 ∷ 0x00 ∷ 0x01 ∷ 0x00 ∷ 0x00 ∷ 0x00 ∷ 0xFF ∷ 0x07 ∷ 0x00 ∷ 0x00 ∷ 0x26 ∷ 0x00 ∷ [])
-    ∷ givesSheet (ascii ":0207FF001234B2\n" ++ end) 8266 8266 (0x06 ∷ 0x00 ∷ [])
+    (ascii ":0207ff001234b2" ++ (0x0D ∷ 0x0A ∷ []) ++ end)
+    8266
+    8266
+    (0x06 ∷ 0x00 ∷ 0x01 ∷ 0x00 ∷ 0x00 ∷ 0x00 ∷ 0xFF ∷ 0x07 ∷ 0x00 ∷ 0x00 ∷ 0x4A ∷ 0x00 ∷ [])
     -- past offset FFFFh, before the sum; up to it
     ∷ refusedAs (ascii ":02FFFF000102FE\n") 1 1
     ∷ refusedAs (ascii ":01FFFF000100\n") 4 1
@@ -116,8 +114,8 @@ hexTexts =
     ∷ refusedAs (ascii ":02000002F0000C\n") 3 1
     ∷ refusedAs (ascii ":02000002F0000D\n") 2 1
     ∷ refusedAs (ascii ":0400000300000100F8\n") 3 1
-    -- length 00 outside
-    ∷ givesSheet (ascii ":0080000080\n" ++ end) 2 2 (0x00 ∷ 0x00 ∷ [])
+    -- length 00 outside: the line behind it decides
+    ∷ refusedAs (ascii ":0080000080\nxx\n") 1 2
     -- any byte after the end record
     ∷ refusedAs (end ++ ascii "x") 6 2
     ∷ refusedAs (end ++ (0x0D ∷ [])) 6 2
@@ -139,10 +137,10 @@ hexTexts =
     ∷ refusedAs (ascii "00000001FF\n") 1 1
     ∷ refusedAs (ascii ":00000001FF \n") 1 1
     ∷ refusedAs toData 7 0
-    -- the edges of data flash; the address in 01 and 04 is not read
+    -- the edges of data flash; the address in 01 and 04 is not read, so the byte behind the end record is what is refused
     ∷ refusedAs (toData ++ ascii ":010FFF0011E0\n") 4 2
     ∷ refusedAs (toData ++ ascii ":01180000AA3D\n") 4 2
-    ∷ givesSheet (ascii ":02123404000FA5\n:0117FF005594\n:0056780131\n") 550 550 (0x03 ∷ 0x00 ∷ 0x01 ∷ 0x00 ∷ 0x17 ∷ 0x0F ∷ [])
+    ∷ refusedAs (ascii ":02123404000FA5\n:0117FF005594\n:0056780131\nx") 6 4
     -- all of data flash
     ∷ givesSheet (blocksOf 0 8) 4386 4386 (0x18 ∷ 0x00 ∷ [])
     ∷ []

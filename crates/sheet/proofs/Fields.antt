@@ -1,5 +1,5 @@
--- Laws of the fields of an entry: they are those of the bytes from the entry on. Assumes nothing.
-use mathlib.Core.Path.{_≡_, refl, ap, _∙_}
+-- Laws of the fields of the head and of an entry: those of an entry are those of the bytes from it on. Assumes nothing.
+use mathlib.Core.Path.{_≡_, refl, sym, ap, _∙_}
 use mathlib.Core.Bool.{Bool, true, false, cond, _||_}
 use mathlib.Core.List.{List}
 use Prim.Native.Nat.{ℕ, _+_, _-_, _<_, _≤_}
@@ -11,9 +11,11 @@ use lib.Seq.{take-all, drop-drop, getD-drop}
 use Rattle.rules.specs.declared.Address.{Address}
 use Rattle.rules.specs.declared.Chip.{Chip}
 use Rattle.rules.specs.Chip.{byteAt, wordAt, addressAt, range}
-use Rattle.rules.specs.Sheet.{form, count, tableEnd, entryAt, kindAt, zeroAt, offsetAt, flagsOf, isLast, J6, J12, bodyLength, bodyEnd, offsetDue, kindOf, stepOf, stepAt}
+use Rattle.rules.specs.Sheet.{formTwo, form, headSize, count, tableEnd, mostBytes, lastKind, entryAt, kindAt, zeroAt, offsetAt, flagsOf, isLast, J6, J12, bodyLength, bodyEnd, offsetDue, kindOf, stepOf, stepAt}
 use Rattle.sheet.specs.declared.table.Entry.{Entry}
+use Rattle.sheet.specs.declared.table.Head.{Head}
 use Rattle.sheet.specs.Entry.{entryIn, fieldsOf, lengthOf, endOf, pairWrong, lockWrong}
+use Rattle.sheet.specs.Head.{headIn, formOf}
 
 -- ---- the head ----
 
@@ -21,6 +23,33 @@ use Rattle.sheet.specs.Entry.{entryIn, fieldsOf, lengthOf, endOf, pairWr
 pub few-steps : (s : List ℕ) → ((i : ℕ) → byteAt s i < 256) → count s < 65536
 unfolding count
 few-steps s bytes = let at = form s .head - 2 in omega (arith, bytes at, bytes (at + 1))
+
+-- the head that is read, by the form
+abbrev headFormed : Bool → ℕ → Head
+headFormed b n = record { two = b; size = formOf b .head; count = n }
+
+pub head-formed : (s : List ℕ) (b : Bool) (n : ℕ) → formTwo s ≡ b → n ≡ wordAt s (formOf b .head - 2) → headFormed b n ≡ headIn s
+unfolding headSize count
+head-formed s b n h e = ap (headFormed b) e ∙ sym (ap (λ (x : Bool). headFormed x (wordAt s (formOf x .head - 2))) h)
+
+-- what a head that was read says of the sheet
+pub record Heads (s : List ℕ) (head : Head) : Type 0 where
+  pub two : head .two ≡ formTwo s
+  pub size : head .size ≡ headSize s
+  pub steps : head .count ≡ count s
+  pub most : formOf (head .two) .most ≡ mostBytes s
+  pub kinds : formOf (head .two) .kinds ≡ lastKind s
+
+pub heads : (s : List ℕ) (head : Head) → head ≡ headIn s → Heads s head
+unfolding mostBytes lastKind
+heads s head h =
+    record {
+      two = ap (λ x. x .two) h;
+      size = ap (λ x. x .size) h;
+      steps = ap (λ x. x .count) h;
+      most = ap (λ x. formOf (x .two) .most) h;
+      kinds = ap (λ x. formOf (x .two) .kinds) h;
+    }
 
 -- ---- what is cut from a place on ----
 

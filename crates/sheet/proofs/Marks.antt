@@ -19,6 +19,7 @@ use Rattle.rules.specs.Chip.{Memory, small, large, sameFlash, start, flashSize,
 use Rattle.rules.specs.declared.Verdict.the-variants.{Accepted}
 use Rattle.rules.specs.Sheet.{formTwo, chipNumber, against, headSize, count, entryAt, entriesVerdict, kindAt, sadAt, eadAt, rangeAt, lastKind, covers, written, anyFrom, anyWritten, writesAgain, J13}
 use Rattle.rules.proofs.Sheet.{EntryAllowed, entries-allowed}
+use Rattle.rules.proofs.WritesTwice.{once-each}
 use Rattle.rules.proofs.Choices.{both}
 use Rattle.chip_finder.specs.LentFlashes.{memory}
 use Rattle.chip_finder.proofs.Held.{valid-held}
@@ -249,6 +250,10 @@ module _ (p : ℕ → Bool) (n : ℕ) where
     pub one-once : p n ≡ false → anyFrom p n left ≡ anyFrom p (n + 1) rest
     unfolding anyFrom
     one-once e = rw (more, add-one rest, e)
+
+-- one step alone writes no block again
+pub too-few : (s : List ℕ) → count s < 2 → J13 s ≡ false
+too-few s h = once-each s (λ i j f b l m w v. omega arith)
 
 -- ---- the entries one after another ----
 

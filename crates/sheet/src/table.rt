@@ -16,9 +16,10 @@ ghost use Prim.Native.Nat.{_+_, _*_, _<_, _≤_};
 ghost use lib.ListN.{length, drop};
 ghost use Rattle.rules.specs.Sheet.{formTwo, against, headSize, count, entrySize, tableEnd, flagsOf, offsetDue};
 ghost use Rattle.sheet.specs.Entry.{lengthOf, endOf, entryIn, fieldsOf};
+ghost use Rattle.sheet.specs.Head.{headIn};
 
 // The bytes of an entry.
-const ENTRY_SIZE: usize = 12;
+pub(crate) const ENTRY_SIZE: usize = 12;
 
 // ---- the head ----
 
@@ -45,29 +46,50 @@ pub fn against(sheet: &[u8]) -> Chip
     small()
 }
 
-// How many bytes stand before the entries. Whatever asks for a place asks here.
-pub fn head_size(sheet: &[u8]) -> usize
-    ensures { λ r. ⌜ (r ≡ headSize (now (sheet .entry))) × (2 ≤ r) × (r ≤ 12) ⌝ }
+// The head: whether it is of form 2, how many bytes stand before the entries, and how many steps it says. Whatever asks for a place asks here.
+pub struct Head {
+    pub two: bool,
+    pub size: usize,
+    pub count: usize,
+}
+
+pub fn head_of(sheet: &[u8]) -> Head
+    ensures { λ r. ⌜ (r ≡ headIn (now (sheet .entry))) × (r .size ≤ 12) × (r .count < 65536) ⌝ }
 {
     if form_two(sheet) {
-        return 6;
+        return Head {
+            two: true,
+            size: 6,
+            count: word_at(sheet, 4) as usize,
+        };
     }
-    2
+    Head {
+        two: false,
+        size: 2,
+        count: word_at(sheet, 0) as usize,
+    }
+}
+
+// How many bytes stand before the entries.
+pub fn head_size(sheet: &[u8]) -> usize
+    ensures { λ r. ⌜ (r ≡ headSize (now (sheet .entry))) × (r ≤ 12) ⌝ }
+{
+    head_of(sheet).size
 }
 
 // How many steps the sheet says it has.
 pub fn count(sheet: &[u8]) -> usize
     ensures { λ r. ⌜ (r ≡ count (now (sheet .entry))) × (r < 65536) ⌝ }
 {
-    let head = head_size(sheet);
-    word_at(sheet, head - 2) as usize
+    head_of(sheet).count
 }
 
 // Where the table ends and the bodies begin.
 pub fn table_end(sheet: &[u8]) -> usize
     ensures { λ r. ⌜ r ≡ tableEnd (now (sheet .entry)) ⌝ }
 {
-    head_size(sheet) + ENTRY_SIZE * count(sheet)
+    let head = head_of(sheet);
+    head.size + ENTRY_SIZE * head.count
 }
 
 // ---- entries ----
@@ -118,7 +140,7 @@ fn cut_entry(e: &[u8]) -> Entry
 }
 
 // An entry that is all there: no byte of it has to be asked for.
-fn whole_entry(e: &[u8]) -> Entry
+pub(crate) fn whole_entry(e: &[u8]) -> Entry
     requires { ⌜ 12 ≤ length (now e) ⌝ }
     ensures { λ r. ⌜ r ≡ fieldsOf (now (e .entry)) ⌝ }
 {
@@ -131,8 +153,8 @@ fn whole_entry(e: &[u8]) -> Entry
     }
 }
 
-// Entry i behind a head of that size, for a caller that has asked for the head once.
-pub fn entry_behind(sheet: &[u8], head: usize, i: usize) -> Entry
+// Entry i behind a head of that size.
+fn entry_behind(sheet: &[u8], head: usize, i: usize) -> Entry
     ensures { λ r. ⌜ r ≡ fieldsOf (drop (head + entrySize * i) (now (sheet .entry))) ⌝ }
 {
     let e = from_entry(sheet, head, i);

@@ -1,7 +1,7 @@
 // J13: a step writes a block that stands written (02, M-107). The steps are gone through once, with two rows of marks, one byte a block. It is asked of a
 // sheet whose entries were accepted, so their pairs are not judged again, and no body is read.
-use crate::table::count;
-use crate::table::head_size;
+use crate::table::ENTRY_SIZE;
+use crate::table::Head;
 use chip_finder::blocks_held;
 use octets::numbers::address_of;
 use rules::Block;
@@ -11,22 +11,20 @@ use sheet_marks::FREE;
 use sheet_marks::clear_marks;
 use sheet_marks::put_marks;
 ghost use mathlib.Core.Path.{_≡_};
-ghost use Prim.Native.Nat.{_+_, _*_, _≤_};
+ghost use Prim.Native.Nat.{_+_, _*_, _<_, _≤_};
 ghost use lib.ListN.{length, replicate};
 ghost use Rattle.rules.specs.declared.Verdict.the-variants.{Accepted};
-ghost use Rattle.rules.specs.Sheet.{against, headSize, count, tableEnd, entriesVerdict, J13};
+ghost use Rattle.rules.specs.Sheet.{against, headSize, count, entriesVerdict, J13};
 ghost use Rattle.chip_finder.specs.LentFlashes.{memory};
 ghost use Rattle.sheet_marks.specs.Marks.{Marked};
 ghost use Rattle.sheet.specs.Entry.{fieldsOf};
+ghost use Rattle.sheet.specs.Head.{headIn};
 ghost use Rattle.sheet.specs.Taken.{rowTaken, Taken, stepTaken, entryTaken};
 
 // The blocks of the larger chip: a row has a mark for each.
 const CODE_BLOCKS: usize = 64;
 
 const DATA_BLOCKS: usize = 32;
-
-// The bytes of an entry.
-const ENTRY_SIZE: usize = 12;
 
 // The kinds by their numbers: a write is the last that counts here.
 const ERASE: u8 = 1;
@@ -87,16 +85,17 @@ fn any_taken(sheet: &[u8], head: usize, n: usize, code: &mut [u8], data: &mut [u
     false
 }
 
-// J13, of a sheet whose head and entries were accepted.
-pub(crate) fn written_twice(sheet: &[u8]) -> bool
-    ensures { λ r. ⌜ (tableEnd (now (sheet .entry)) ≤ length (now (sheet .entry)) → entriesVerdict (against (now (sheet .entry))) (now (sheet .entry)) 0 (count (now (sheet .entry))) ≡ Accepted → r ≡ J13 (now (sheet .entry))) ⌝ }
+// J13, of a sheet whose head and entries were accepted. One step alone writes no block twice, and no marks are made for it.
+pub(crate) fn written_twice(head: Head, sheet: &[u8]) -> bool
+    requires { ⌜ (head ≡ headIn (now sheet)) × (head .size ≤ 12) × (head .count < 65536) ⌝ }
+    requires { ⌜ head .size + 12 * head .count ≤ length (now sheet) ⌝ }
+    requires { ⌜ entriesVerdict (against (now sheet)) (now sheet) 0 (count (now sheet)) ≡ Accepted ⌝ }
+    ensures { λ r. ⌜ r ≡ J13 (now (sheet .entry)) ⌝ }
 {
-    let head = head_size(sheet);
-    let n = count(sheet);
-    if sheet.len() < head + ENTRY_SIZE * n {
+    if head.count < 2 {
         return false;
     }
     let mut code = [FREE; CODE_BLOCKS];
     let mut data = [FREE; DATA_BLOCKS];
-    any_taken(sheet, head, n, &mut code, &mut data)
+    any_taken(sheet, head.size, head.count, &mut code, &mut data)
 }

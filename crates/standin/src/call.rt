@@ -95,15 +95,14 @@ pub fn byte_call(
     ensures { λ r. ⌜ noteNumbers (r .answer .note) ≡ noteNumbers (byteCall (d .chip) (shows d (memory (now (code .entry)) (now («data» .entry)))) (now (reply .entry)) byte .note) ⌝ }
     ensures { λ r. ⌜ Stands (callNumber (r .answer .call)) d (r .device) ⌝ }
 {
-    let mut e = d;
-    let chip = e.chip;
-    let c = e.core;
-    let t = standin_engine::byte_core(chip, c, byte, &mut e.held, code, data, reply);
-    let n = t.core;
-    e.core = n;
+    let chip = d.chip;
+    let c = d.core;
+    let mut held = d.held;
+    let t = standin_engine::byte_core(chip, c, byte, &mut held, code, data, reply);
+    let core = t.core;
     let answer = t.answer;
     Answered {
-        device: e,
-        answer: answer,
+        device: Device { chip, core, held },
+        answer,
     }
 }

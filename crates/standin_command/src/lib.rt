@@ -43,28 +43,6 @@ fn silences(v: Fault) -> bool
     }
 }
 
-fn phase_after(phase: Phase, v: Fault) -> Phase
-    ensures { λ r. ⌜ r ≡ phaseAfter phase v ⌝ }
-{
-    match phase {
-        Phase::Mode => Phase::Mode,
-        Phase::Speed => {
-            if silences(v) {
-                return Phase::Silent;
-            }
-            Phase::Speed
-        }
-        Phase::Ident => {
-            if silences(v) {
-                return Phase::Silent;
-            }
-            Phase::Ident
-        }
-        Phase::Command => Phase::Command,
-        Phase::Silent => Phase::Silent,
-    }
-}
-
 // The phase after a parameter or ID fault, both of which silence in Speed and Ident.
 pub(crate) fn silenced(phase: Phase) -> Phase
     ensures { λ r. ⌜ (r ≡ phaseAfter phase Parameter) × (r ≡ phaseAfter phase Ident) ⌝ }
@@ -76,6 +54,16 @@ pub(crate) fn silenced(phase: Phase) -> Phase
         Phase::Command => Phase::Command,
         Phase::Silent => Phase::Silent,
     }
+}
+
+// A fault that does not silence leaves the phase, which is then not asked for.
+fn phase_after(phase: Phase, v: Fault) -> Phase
+    ensures { λ r. ⌜ r ≡ phaseAfter phase v ⌝ }
+{
+    if silences(v) {
+        return silenced(phase);
+    }
+    phase
 }
 
 // A status byte answered, with that note: flash and options stand. It is small, so that the compiler puts it where a command is refused and the

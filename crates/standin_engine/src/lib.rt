@@ -9,7 +9,7 @@ use rules::Verdict;
 use standin_state::Core;
 use standin_state::Response;
 ghost use mathlib.Core.Path.{_≡_};
-ghost use Prim.Native.Nat.{ℕ, _<_, _≤_};
+ghost use Prim.Native.Nat.{ℕ, _+_, _<_, _≤_};
 ghost use mathlib.Core.List.{List, []};
 ghost use lib.ListN.{length};
 ghost use Rattle.rules.specs.declared.Call.the-variants.{Answer};
@@ -57,17 +57,11 @@ pub fn held_count(have: usize, held: &[u8; 260]) -> usize
     0
 }
 
-// The size of the frame in hand; 0 where its LEN has not come.
-fn in_hand(have: usize, held: &[u8; 260]) -> usize
-    ensures { λ r. ⌜ r ≤ 260 ⌝ }
-    ensures { λ r. ⌜ (have < r → (2 ≤ have) × (r ≡ frameSize (lenOf (now (held .entry))))) ⌝ }
-    ensures { λ r. ⌜ (r ≤ have → (have ≡ 1 → ⊥) → received have (now (held .entry)) ≡ []) ⌝ }
+// Where the last byte of the frame in hand stands, once its LEN has come.
+fn last_place(held: &[u8; 260]) -> usize
+    ensures { λ r. ⌜ (r + 1 ≡ frameSize (lenOf (now (held .entry)))) × (r < 260) ⌝ }
 {
-    if have < 2 {
-        return 0;
-    }
-    let len = held[1];
-    frame_judge::frame_size(len)
+    frame_judge::frame_size(held[1]) - 1
 }
 
 // Nothing is held: the byte begins a frame if it is the start byte awaited, else it is skipped. How many bytes are then held.
@@ -91,26 +85,39 @@ pub enum Taken {
     Whole,
 }
 
+// A byte past the LEN of a frame: it goes on with the frame, which is the way of most bytes and so the first, or completes it. A count past the
+// frame's end holds nothing.
+fn go_on(chip: Chip, c: Core, byte: u8, held: &mut [u8; 260]) -> Taken
+    requires { ⌜ (length (now held) ≡ 260) × (2 ≤ c .have) ⌝ }
+    ensures { λ r. ⌜ Takes chip c byte (now (held .entry)) (now (held .exit)) r ⌝ }
+{
+    let have = c.have;
+    let last = last_place(&*held);
+    if have < last {
+        held[have] = byte;
+        return Taken::Held(have + 1);
+    }
+    if have == last {
+        held[have] = byte;
+        return Taken::Whole;
+    }
+    Taken::Held(begin(chip, c, byte, held))
+}
+
 // A byte in a phase that takes frames: it begins one, goes on with one, or completes one. With two bytes no frame is whole.
 fn receive(chip: Chip, c: Core, byte: u8, held: &mut [u8; 260]) -> Taken
     requires { ⌜ length (now held) ≡ 260 ⌝ }
     ensures { λ r. ⌜ Takes chip c byte (now (held .entry)) (now (held .exit)) r ⌝ }
 {
     let have = c.have;
+    if 2 <= have {
+        return go_on(chip, c, byte, held);
+    }
     if have == 1 {
         held[1] = byte;
         return Taken::Held(2);
     }
-    let size = in_hand(have, &*held);
-    if have >= size {
-        return Taken::Held(begin(chip, c, byte, held));
-    }
-    held[have] = byte;
-    let n = have + 1;
-    if n == size {
-        return Taken::Whole;
-    }
-    Taken::Held(n)
+    Taken::Held(begin(chip, c, byte, held))
 }
 
 // The phases that take frames: not the one that waits for a mode byte, nor silence.

@@ -1,7 +1,7 @@
 -- `player_emit::emit_in` meets its contract, stage by stage. Assumes nothing.
 use mathlib.Core.Path.{sym, ap, _∙_}
 use Rattle.rules.specs.declared.Stage.{Stage}
-use Rattle.player_laws.proofs.PlaceInSheet.{block-stands, page-stands}
+use Rattle.player_laws.proofs.PlaceInSheet.{block-found, page-found}
 use Rattle.player_emit.specs.Emitting.{emittedIntoBy}
 use borrow.Author.Needs.{needs}
 use Rattle.player_emit.proofs.emit_in.Statement.{statement}
@@ -12,14 +12,14 @@ emit-block-requires c κs =
     let x = c .before in
     let s = x .before .before .before .before in
     let a = s .args in
-    (s .pre .0, block-stands (a .chip) (a .sheet .now) (a .p) (a .t) (s .pre .1) (s .pre .2) (x .enum-told3 .given .1) .2)
+    (s .pre .0, block-found (a .n) (a .t) (a .p) (s .pre .1) (x .enum-told3 .given .1) .2)
 
 emit-page-requires : tie.Need-emit-page-requires
 emit-page-requires c κs =
     let x = c .before .before in
     let s = x .before .before .before .before in
     let a = s .args in
-    (s .pre .0, page-stands (a .chip) (a .sheet .now) (a .p) (a .t) (s .pre .1) (s .pre .2) (x .stage .given .1) .3)
+    (s .pre .0, page-found (a .n) (a .t) (a .p) (s .pre .1) (x .stage .given .1) .3)
 
 returns : tie.Need-returns
 unfolding emittedIntoBy

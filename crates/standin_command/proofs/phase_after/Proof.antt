@@ -1,34 +1,40 @@
--- `standin_command::phase_after` meets its contract. Assumes nothing.
-use mathlib.Core.Path.{sym, ap, _∙_}
-use mathlib.Core.Bool.{Bool, cond}
+-- `standin_command::phase_after` meets its contract: a fault that silences is like any other that does. Assumes nothing.
+use mathlib.Core.Path.{_≡_, refl, sym, _∙_}
+use mathlib.Core.Bool.{true, false}
+use Rattle.rules.specs.declared.Fault.{Fault}
+use Rattle.rules.specs.declared.Fault.the-variants.{Parameter}
 use Rattle.rules.specs.declared.Phase.{Phase}
-use Rattle.rules.specs.declared.Phase.the-variants.{Speed, Ident, Silent}
-use Rattle.rules.specs.StandIn.{phaseAfter}
+use Rattle.rules.specs.declared.Phase.the-variants.{Mode, Speed, Ident, Command, Silent}
+use Rattle.rules.specs.StandIn.{silences, phaseAfter}
 use borrow.Author.Needs.{needs}
 use Rattle.standin_command.proofs.phase_after.Statement.{statement}
 use Rattle.standin_command.proofs.phase_after.Tie as tie
 
+as-silencing : (p : Phase) (v : Fault) → silences v ≡ true → phaseAfter p Parameter ≡ phaseAfter p v
+as-silencing Mode v e = refl
+as-silencing Speed v e = rw e
+as-silencing Ident v e = rw e
+as-silencing Command v e = refl
+as-silencing Silent v e = refl
+
+phase-stays : (p : Phase) (v : Fault) → silences v ≡ false → p ≡ phaseAfter p v
+phase-stays Mode v e = refl
+phase-stays Speed v e = rw e
+phase-stays Ident v e = rw e
+phase-stays Command v e = refl
+phase-stays Silent v e = refl
+
 returns : tie.Need-returns
 returns c =
-    ap (λ (t : Bool). cond t Silent Speed) (sym (c .if1 .taken) ∙ c .before .silences .ensures)
-    ∙ ap (λ (p : Phase). phaseAfter p (c .before .before .before .before .args .v)) (sym (c .before .before .enum-told2 .given .1))
+    let t = c .before in
+    let a = t .before .before .args in
+    c .silenced .ensures .0 ∙ as-silencing (a .phase) (a .v) (sym (t .before .silences .ensures) ∙ t .if1 .taken)
 
 returns-2 : tie.Need-returns-2
 returns-2 c =
-    ap (λ (t : Bool). cond t Silent Ident) (sym (c .if2 .taken) ∙ c .before .silences2 .ensures)
-    ∙ ap (λ (p : Phase). phaseAfter p (c .before .before .before .before .args .v)) (sym (c .before .before .enum-told3 .given .1))
-
-returns-4 : tie.Need-returns-4
-returns-4 c =
-    ap (λ (t : Bool). cond t Silent Speed) (sym (c .if1 .left) ∙ c .before .silences .ensures)
-    ∙ ap (λ (p : Phase). phaseAfter p (c .before .before .before .before .args .v)) (sym (c .before .before .enum-told2 .given .1))
-
-returns-5 : tie.Need-returns-5
-returns-5 c =
-    ap (λ (t : Bool). cond t Silent Ident) (sym (c .if2 .left) ∙ c .before .silences2 .ensures)
-    ∙ ap (λ (p : Phase). phaseAfter p (c .before .before .before .before .args .v)) (sym (c .before .before .enum-told3 .given .1))
+    let a = c .before .before .args in
+    phase-stays (a .phase) (a .v) (sym (c .before .silences .ensures) ∙ c .if1 .left)
 
 pub phase-after-spec : {M : Type 1} → statement M
 phase-after-spec =
-    tie.close
-    (tie.spec (λ c. search needs) (λ c. search needs) (λ c κs. search needs) returns (λ c. search needs) (λ c κs. search needs) returns-2 (λ c. search needs) (λ c. search needs) (λ c. search needs) returns-4 returns-5 (λ c. search needs) (λ c. search needs))
+    tie.close (tie.spec (λ c κs. search needs) (λ c κs. search needs) returns returns-2)

@@ -1,0 +1,13 @@
+-- `chip_finder::same_counts` meets its contract. Assumes nothing.
+use borrow.Author.Tests.{eq-eqb, ne-eqb}
+use Rattle.chip_finder.proofs.same_counts.Statement.{statement}
+use Rattle.chip_finder.proofs.same_counts.Tie as tie
+
+returns : tie.Need-returns
+returns c = rw (eq-eqb _ _ (c .before .before .if1 .taken))
+
+returns-2 : tie.Need-returns-2
+returns-2 c = rw (ne-eqb _ _ (c .if1 .left))
+
+pub same-counts-spec : {M : Type 1} → statement M
+same-counts-spec = tie.close (tie.spec returns returns-2)

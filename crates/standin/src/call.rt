@@ -95,6 +95,7 @@ pub fn byte_call(
     ensures { λ r. ⌜ noteNumbers (r .answer .note) ≡ noteNumbers (byteCall (d .chip) (shows d (memory (now (code .entry)) (now («data» .entry)))) (now (reply .entry)) byte .note) ⌝ }
     ensures { λ r. ⌜ Stands (callNumber (r .answer .call)) d (r .device) ⌝ }
 {
+    // taken apart and put together: a record changed in place would be copied whole, its 260 bytes too, around the engine
     let chip = d.chip;
     let c = d.core;
     let mut held = d.held;

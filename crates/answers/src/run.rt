@@ -2,6 +2,7 @@
 use rules::Call;
 use rules::Chip;
 use rules::Flash;
+use standin::call::Device;
 use text_lines::lines::bad_line;
 use text_lines::lines::room_for_bytes;
 use text_lines::told;
@@ -58,17 +59,17 @@ fn show<'a>(s: Session, code: &'a [u8], data: &'a [u8]) -> Session {
 
 // The sheet played to the chip as it stands. With the power off it is Silent, and so it does not wait for a command.
 fn play(s: Session, sheet: &[u8], code: &mut [u8], data: &mut [u8]) -> Session {
-    let mut d = s.device;
+    let d = s.device;
     let chip = d.chip;
     let c = d.core;
+    let mut held = d.held;
     let mut text = [0u8; text_told::ROOM];
-    let told = play_told(chip, sheet, c, &mut d.held, code, data, &mut text);
+    let told = play_told(chip, sheet, c, &mut held, code, data, &mut text);
     io::write_all(1, part::between(&text, 0, told.size));
     let core = told.core;
-    d.core = core;
     Session {
         on: s.on,
-        device: d,
+        device: Device { chip, core, held },
     }
 }
 
@@ -135,6 +136,17 @@ fn run(
     }
 }
 
+// What a line says, with so much room for the flashes.
+fn said_by(line: &[u8], b: Between, code: usize, data: usize) -> Line {
+    let s = b.session;
+    let d = s.device;
+    script_line::parse(
+        line,
+        lent(d.chip, Flash::Code, code),
+        lent(d.chip, Flash::Data, data),
+    )
+}
+
 // The lines of a script; the number of the bad one that ended it, or 0.
 fn lines(
     rig: bool,
@@ -157,13 +169,7 @@ fn lines(
             return number;
         }
         let line = part::between(text, at, end);
-        let s = b.session;
-        let d = s.device;
-        let said = script_line::parse(
-            line,
-            lent(d.chip, Flash::Code, code.len()),
-            lent(d.chip, Flash::Data, data.len()),
-        );
+        let said = said_by(line, b, code.len(), data.len());
         if is_bad(said) {
             return number;
         }

@@ -5,7 +5,7 @@ use mathlib.Core.List.{[]}
 use Rattle.rules.specs.Chip.{small}
 use Rattle.rules.specs.Options.{freshOptions}
 use Rattle.rules.specs.Compute.{everything}
-use Rattle.rules.specs.Rows.{blankFlash}
+use Rattle.trials_rows.specs.Rows.{blankFlash}
 use Rattle.joined_bent.specs.Bent.{after, answerTo, copied}
 use Rattle.joined_bent.specs.Values.{begins, bends, allBend, writing, firstPages, threePages, locking, bentWrites, bentOthers, bentSums}
 

@@ -9,7 +9,7 @@ use Rattle.rules.specs.Options.{freshOptions}
 use Rattle.rules.specs.Sheet.{stepAt}
 use Rattle.rules.specs.Player.{reportOf}
 use Rattle.rules.specs.Run.{Joined, Ran, joinedAtStart, run}
-use Rattle.rules.specs.Rows.{sameMemory, L, reports, noSums, opened, blankFlash, noErase, filled, paged, entry}
+use Rattle.trials_rows.specs.Rows.{sameMemory, L, reports, noSums, opened, blankFlash, noErase, filled, paged, entry}
 use Rattle.joined_bent.specs.Bent.{bent, copied}
 
 -- what is bent, and what it comes to: L1 behind so many finished steps, one frame more than answers before, so many pieces, and that flash

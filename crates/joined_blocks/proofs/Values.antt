@@ -2,8 +2,8 @@
 use mathlib.Core.Path.{_≡_, refl}
 use mathlib.Core.Bool.{true}
 use Rattle.rules.specs.Compute.{everything}
-use Rattle.rules.specs.Rows.{comesLast, stateAfter, exchanged, holds, allHold}
-use Rattle.rules.proofs.Rows.{All, Held, all-held}
+use Rattle.trials_rows.specs.Rows.{comesLast, stateAfter, exchanged, holds, allHold}
+use Rattle.trials_rows.proofs.Rows.{All, Held, all-held}
 use Rattle.joined_blocks.specs.Values.{sevens, blockSessions}
 
 pub block-sessions : allHold blockSessions ≡ true

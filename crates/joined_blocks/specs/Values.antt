@@ -4,7 +4,7 @@ use mathlib.Core.List.{List, [], _∷_, _++_}
 use lib.ListN.{set}
 use Rattle.rules.specs.Chip.{Memory}
 use Rattle.rules.specs.Options.{freshOptions}
-use Rattle.rules.specs.Rows.{Exchange, to, Session, blankFlash, ack, session, command, pair, paged}
+use Rattle.trials_rows.specs.Rows.{Exchange, to, Session, blankFlash, ack, session, command, pair, paged}
 
 -- so many bytes (7i + 3) mod 256 from byte i on
 unfoldable pub sevens : ℕ → ℕ → List ℕ

@@ -12,7 +12,6 @@ use rules::Step;
 use rules::Verdict;
 use sheet::judge::verdict;
 use sheet::steps::step_at;
-use sheet::table::count;
 ghost use mathlib.Core.Path.{_≡_};
 ghost use mathlib.Core.Bool.{cond};
 ghost use lib.Dec.{eqb};
@@ -84,7 +83,7 @@ pub fn next(
     }
     let after = took.player;
     let t = step_now(chip, sheet, p.step, took.step, after.step);
-    let given = emit_step(count(sheet), sheet, t, after, frame);
+    let given = emit_step(took.count, sheet, t, after, frame);
     let player = given.player;
     Called {
         player,

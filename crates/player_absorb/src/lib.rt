@@ -22,7 +22,7 @@ ghost use mathlib.Core.List.{List};
 ghost use Prim.Native.Nat.{ℕ, _<_};
 ghost use lib.ListN.{set};
 ghost use Rattle.rules.specs.declared.Stage.the-variants.{Over};
-ghost use Rattle.rules.specs.Sheet.{stepAt, stepBlocks, stepPages};
+ghost use Rattle.rules.specs.Sheet.{count, stepAt, stepBlocks, stepPages};
 ghost use Rattle.rules.specs.Player.{player, well, newPlayer, started, beginning, pagesSure, absorbs, finished, erasedBlock, openedPages, tookOnce, sentPage, absorbCommand, absorbed, commandIn, lost};
 ghost use Rattle.player_absorb.specs.Absorbing.{absorbedIn};
 
@@ -230,11 +230,13 @@ fn absorb_in(chip: Chip, sheet: &[u8], t: Step, p: Player, reply: &[u8], sums: &
     }
 }
 
-// A player after a reply, and whether it was lost before: then it stands. And the step that it was in, so that a caller need not read it again.
+// A player after a reply, and whether it was lost before: then it stands. And the step that it was in and how many the sheet has, so that a caller
+// need not read them again.
 pub struct AbsorbedOrLost {
     pub lost: bool,
     pub player: Player,
     pub step: Step,
+    pub count: usize,
 }
 
 // A reply is taken in; a player whose step, block or page is not in the sheet stands.
@@ -246,15 +248,17 @@ pub fn absorb_or_lost(
     sums: &mut [u16],
 ) -> AbsorbedOrLost
     ensures { λ r. ⌜ r .lost ≡ lost chip (now (sheet .entry)) p ⌝ }
-    ensures { λ r. ⌜ r .step ≡ stepAt chip (now (sheet .entry)) (p .step) ⌝ }
+    ensures { λ r. ⌜ (r .step ≡ stepAt chip (now (sheet .entry)) (p .step)) × (r .count ≡ count (now (sheet .entry))) ⌝ }
     ensures { λ r. ⌜ absorbs (r .player) (now (sums .exit)) ≡ absorbedIn chip (now (sheet .entry)) p (now (reply .entry)) (now (sums .entry)) ⌝ }
 {
     let t = step_at(chip, sheet, p.step);
-    if is_lost(count(sheet), t, p) {
+    let n = count(sheet);
+    if is_lost(n, t, p) {
         return AbsorbedOrLost {
             lost: true,
             player: p,
             step: t,
+            count: n,
         };
     }
     let player = absorb_in(chip, sheet, t, p, reply, sums);
@@ -262,6 +266,7 @@ pub fn absorb_or_lost(
         lost: false,
         player,
         step: t,
+        count: n,
     }
 }
 

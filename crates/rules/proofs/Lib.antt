@@ -2,7 +2,6 @@ pub mod Bytes
 pub mod Choices
 pub mod First
 pub mod OptionBits
-pub mod Rows
 pub mod Sheet
 pub mod WritesTwice
-pub mod Trials
+pub mod Values

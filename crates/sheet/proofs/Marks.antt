@@ -27,7 +27,8 @@ use Rattle.sheet_marks.specs.Marks.{cleared, Marked, marked}
 use Rattle.sheet_marks.proofs.Rows.{Stand, among, cleared-stand, cleared-length, marked-again, marked-stand, marked-length}
 use Rattle.sheet.specs.declared.table.Entry.{Entry}
 use Rattle.sheet.specs.Entry.{entryIn, fieldsOf}
-use Rattle.sheet.specs.Taken.{rowTaken, Taken, stepTaken, entryTaken}
+use Rattle.sheet_marks.specs.Taken.{rowTaken, Taken, stepTaken}
+use Rattle.sheet.specs.Taken.{entryTaken}
 use Rattle.sheet.proofs.Fields.{from, entry-there}
 use Rattle.sheet.proofs.Ranges.{Ranged, ranged}
 

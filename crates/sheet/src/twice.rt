@@ -4,56 +4,26 @@ use crate::table::ENTRY_SIZE;
 use crate::table::Head;
 use chip_finder::blocks_held;
 use octets::numbers::address_of;
-use rules::Block;
-use rules::Flash;
-use rules::Range;
 use sheet_marks::FREE;
-use sheet_marks::clear_marks;
-use sheet_marks::put_marks;
+use sheet_marks::steps::step_taken;
 ghost use mathlib.Core.Path.{_≡_};
 ghost use Prim.Native.Nat.{_+_, _*_, _<_, _≤_};
 ghost use lib.ListN.{length, replicate};
 ghost use Rattle.rules.specs.declared.Verdict.the-variants.{Accepted};
 ghost use Rattle.rules.specs.Sheet.{against, headSize, count, entriesVerdict, J13};
 ghost use Rattle.chip_finder.specs.LentFlashes.{memory};
-ghost use Rattle.sheet_marks.specs.Marks.{Marked};
+ghost use Rattle.sheet_marks.specs.Taken.{Taken};
 ghost use Rattle.sheet.specs.Entry.{fieldsOf};
 ghost use Rattle.sheet.specs.Head.{headIn};
-ghost use Rattle.sheet.specs.Taken.{rowTaken, Taken, stepTaken, entryTaken};
+ghost use Rattle.sheet.specs.Taken.{entryTaken};
 
 // The blocks of the larger chip: a row has a mark for each.
 const CODE_BLOCKS: usize = 64;
 
 const DATA_BLOCKS: usize = 32;
 
-// The kinds by their numbers: a write is the last that counts here.
-const ERASE: u8 = 1;
-
+// A write is the last kind that counts here.
 const WRITE: u8 = 2;
-
-// An erase or a write over the marks of its flash; whether a write meets a block that stands written.
-fn row_taken(kind: u8, first: Block, last: Block, row: &mut [u8]) -> bool
-    ensures { λ r. ⌜ _≡_ {A = Marked} (record { again = r; row = now (row .exit) }) (rowTaken kind first last (now (row .entry))) ⌝ }
-{
-    if kind == ERASE {
-        clear_marks(row, first, last);
-        return false;
-    }
-    put_marks(row, first, last)
-}
-
-// Over the marks of both flashes.
-fn step_taken(kind: u8, blocks: Range, code: &mut [u8], data: &mut [u8]) -> bool
-    ensures { λ r. ⌜ _≡_ {A = Taken} (record { again = r; rows = memory (now (code .exit)) (now («data» .exit)) }) (stepTaken kind blocks (memory (now (code .entry)) (now («data» .entry)))) ⌝ }
-{
-    match blocks {
-        Range::Blocks(f, first, last) => match f {
-            Flash::Code => row_taken(kind, first, last, code),
-            Flash::Data => row_taken(kind, first, last, data),
-        },
-        Range::Invalid => false,
-    }
-}
 
 // Of an entry as it stands in the sheet; verify, sum, blank check and lock do not count.
 fn entry_taken(e: &[u8], code: &mut [u8], data: &mut [u8]) -> bool

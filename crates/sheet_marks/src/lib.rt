@@ -1,4 +1,6 @@
 // Rows of marks, one byte a block of a flash: which blocks stand written (02, M-107). A block that has no byte there is passed over.
+pub mod steps;
+
 use rules::Block;
 ghost use mathlib.Core.Path.{_≡_};
 ghost use Prim.Native.Nat.{_+_, _≤_, _<_};

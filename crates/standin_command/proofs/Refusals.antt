@@ -14,7 +14,6 @@ use Rattle.rules.specs.declared.Note.the-variants.{Empty, Bits}
 use Rattle.rules.specs.declared.Options.{Options}
 use Rattle.rules.specs.declared.Order.the-variants.{Erase, BlankCheck, Identity, Release, WindowSet}
 use Rattle.rules.specs.declared.Phase.{Phase}
-use Rattle.rules.specs.declared.Phase.the-variants.{Mode, Speed, Ident, Command, Silent}
 use Rattle.rules.specs.declared.Task.the-variants.{Idle}
 use Rattle.rules.specs.Chip.{Memory, blank, same, blankMemory, bytesFrom, identSize, identOf}
 use Rattle.rules.specs.First.{rule, first, firstFault}
@@ -23,23 +22,16 @@ use Rattle.rules.specs.Options.{SEPR, BTPR, FSPR, eraseProtected, blankOptions}
 use Rattle.rules.specs.State.{Out, out, noted, rest}
 use Rattle.rules.specs.Command.{orderChecks, usedIn}
 use Rattle.rules.specs.StandIn.{silences, phaseAfter}
+use Rattle.standin_verdict.proofs.Silencing.{phase-stays}
 
 -- a fault answered: by its own note, phase and status byte
 abbrev pub answeredAs : Phase → Options → Memory → Fault → Out
 answeredAs ph o m v = noted (noteOf v) (out (rest (phaseAfter ph v) Idle o m) (one (statusByte v)))
 
--- one that does not silence leaves the phase
-kept : (ph : Phase) (v : Fault) → silences v ≡ false → ph ≡ phaseAfter ph v
-kept Mode v h = refl
-kept Speed v h = rw h
-kept Ident v h = rw h
-kept Command v h = refl
-kept Silent v h = refl
-
 pub refused-kept : (ph : Phase) (o : Options) (m : Memory) (v : Fault) (st : ℕ) (n : Note)
     → silences v ≡ false → st ≡ statusByte v → n ≡ noteOf v
     → noted n (out (rest ph Idle o m) (one st)) ≡ answeredAs ph o m v
-refused-kept ph o m v st n h s e = rw (s, e, ← kept ph v h)
+refused-kept ph o m v st n h s e = rw (s, e, ← phase-stays ph v h)
 
 -- an ID is refused with the phase that it leaves
 pub answered-ident : (ph after : Phase) (o : Options) (m : Memory) (v : Fault) (st : ℕ)

@@ -10,61 +10,19 @@ use standin_state::Core;
 use standin_state::Response;
 use standin_state::lent::lent_verdict;
 use standin_state::resting::unanswered;
+use standin_verdict::phases::phase_after;
 ghost use mathlib.Core.Path.{_≡_};
 ghost use Prim.Native.Nat.{_≤_};
 ghost use lib.ListN.{length};
-ghost use Rattle.rules.specs.declared.Fault.the-variants.{Parameter, Ident};
 ghost use Rattle.rules.specs.declared.Task.the-variants.{Idle};
 ghost use Rattle.rules.specs.Chip.{Memory};
 ghost use Rattle.rules.specs.Frame.{one, statusByte, noteOf};
-ghost use Rattle.rules.specs.StandIn.{out, noted, rest, silences, phaseAfter, onCommand, lentVerdict};
+ghost use Rattle.rules.specs.StandIn.{out, noted, rest, phaseAfter, onCommand, lentVerdict};
 ghost use Rattle.chip_finder.specs.LentFlashes.{memory};
 ghost use Rattle.frame_build.specs.Buffer.{frameIn};
 ghost use Rattle.standin_state.specs.View.{idle, Comes, Fits, handed};
 
 mod orders;
-
-// Whether a fault in Speed or Ident silences the chip: LEN, parameter, ID.
-fn silences(v: Fault) -> bool
-    ensures { λ r. ⌜ r ≡ silences v ⌝ }
-{
-    match v {
-        Fault::Well => false,
-        Fault::EndByte => false,
-        Fault::Sum => false,
-        Fault::Code => false,
-        Fault::Length(_, _) => true,
-        Fault::Parameter => true,
-        Fault::Ident => true,
-        Fault::NotBlank(_) => false,
-        Fault::Protected => false,
-        Fault::PageNotBlank => false,
-        Fault::Difference => false,
-    }
-}
-
-// The phase after a parameter or ID fault, both of which silence in Speed and Ident.
-pub(crate) fn silenced(phase: Phase) -> Phase
-    ensures { λ r. ⌜ (r ≡ phaseAfter phase Parameter) × (r ≡ phaseAfter phase Ident) ⌝ }
-{
-    match phase {
-        Phase::Mode => Phase::Mode,
-        Phase::Speed => Phase::Silent,
-        Phase::Ident => Phase::Silent,
-        Phase::Command => Phase::Command,
-        Phase::Silent => Phase::Silent,
-    }
-}
-
-// A fault that does not silence leaves the phase, which is then not asked for.
-fn phase_after(phase: Phase, v: Fault) -> Phase
-    ensures { λ r. ⌜ r ≡ phaseAfter phase v ⌝ }
-{
-    if silences(v) {
-        return silenced(phase);
-    }
-    phase
-}
 
 // A status byte answered, with that note: flash and options stand. It is small, so that the compiler puts it where a command is refused and the
 // answer of one that is done does not go through memory; nor does its empty note.

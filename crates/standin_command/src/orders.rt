@@ -1,7 +1,6 @@
 // A command whose frame is well: one match over the codes of 01's table reads the information and refuses or does the order. Below it a small
 // function for each kind of answer, and for each command that its information, flash or options can refuse.
 use crate::refuse_with;
-use crate::silenced;
 use chip_options::change::security_set;
 use octets::numbers::address_at;
 use octets::numbers::byte_at;
@@ -22,6 +21,7 @@ use standin_state::Core;
 use standin_state::Response;
 use standin_state::resting::at_rest;
 use standin_state::tasks;
+use standin_verdict::phases::silenced;
 ghost use mathlib.Core.Path.{_≡_};
 ghost use mathlib.Core.Bool.{cond, _&&_};
 ghost use mathlib.Core.List.{List, [], _∷_, _++_};

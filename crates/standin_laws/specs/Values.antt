@@ -6,7 +6,7 @@ use Rattle.rules.specs.declared.Flash.the-variants.{Code, Data}
 use Rattle.rules.specs.declared.Note.the-variants.{EndByte}
 use Rattle.rules.specs.Chip.{Memory, small, flashSize, identAt, identSize}
 use Rattle.rules.specs.Command.{identCode}
-use Rattle.rules.specs.Rows.{Exchange, to, toNoted, Session, blankFlash, ack, session, askIdent, command, one, pair, onePage}
+use Rattle.trials_rows.specs.Rows.{Exchange, to, toNoted, Session, blankFlash, ack, session, askIdent, command, one, pair, onePage}
 
 abbrev ident : List ℕ
 ident = 0x0A ∷ 0x0B ∷ 0x0C ∷ 0x0D ∷ 0x0E ∷ 0x0F ∷ 0x10 ∷ 0x11 ∷ 0x12 ∷ 0x13 ∷ []

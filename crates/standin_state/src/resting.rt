@@ -3,6 +3,7 @@ use crate::Core;
 use crate::Response;
 use rules::Note;
 use rules::Options;
+use rules::Pages;
 use rules::Phase;
 use rules::Task;
 ghost use mathlib.Core.Path.{_≡_};
@@ -31,6 +32,30 @@ pub fn at_rest(phase: Phase, task: Task, options: Options) -> Core
     }
 }
 
+// A command begun, made anew field by field: copied whole, it would take along the bytes between its fields, and an engine that stays a call would
+// read them at each byte that comes.
+fn pages_anew(p: Pages) -> Pages
+    ensures { λ r. ⌜ r ≡ p ⌝ }
+{
+    let f = p.flash;
+    Pages {
+        flash: f,
+        page: p.page,
+        left: p.left,
+        status: p.status,
+    }
+}
+
+fn task_anew(task: Task) -> Task
+    ensures { λ r. ⌜ r ≡ task ⌝ }
+{
+    match task {
+        Task::Idle => Task::Idle,
+        Task::Programming(p) => Task::Programming(pages_anew(p)),
+        Task::Verifying(p) => Task::Verifying(pages_anew(p)),
+    }
+}
+
 // All stands, with nothing received and nothing answered.
 pub fn unanswered(c: Core) -> Response
     ensures { λ r. ⌜ ((m : Memory) (reply : List ℕ) → Comes r m reply (unanswered (idle c m)) reply) ⌝ }
@@ -39,7 +64,7 @@ pub fn unanswered(c: Core) -> Response
     let task = c.task;
     let o = c.options;
     Response {
-        core: at_rest(phase, task, o),
+        core: at_rest(phase, task_anew(task), o),
         answered: 0,
         note: Note::Empty,
     }

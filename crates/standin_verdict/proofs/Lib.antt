@@ -1,3 +1,4 @@
+pub mod Silencing
 pub mod Ranges
 pub mod Readings
 pub mod Verdicts

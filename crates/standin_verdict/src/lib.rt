@@ -1,4 +1,6 @@
 // What refuses a command behind the frame's own rows: its information (row 5 of the status table), then flash and options (rows 6 to 8).
+pub mod phases;
+
 use rules::Block;
 use rules::Chip;
 use rules::Fault;

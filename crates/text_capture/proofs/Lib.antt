@@ -1,5 +1,3 @@
-pub mod Signs
-pub mod Matches
 pub mod Hearing
 pub mod Judging
 pub mod Telling

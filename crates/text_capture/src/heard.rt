@@ -1,9 +1,4 @@
 // What the chip gives to a line, compared with the line behind it. There is no buffer of answers: they may be longer than the capture.
-use crate::line::given_row;
-use crate::matching::Matching;
-use crate::matching::begun;
-use crate::matching::compare;
-use crate::matching::is_all;
 use octets::numbers::byte_at;
 use rules::Chip;
 use standin_engine::Change;
@@ -13,6 +8,11 @@ use standin_state::resting::powered;
 use text_read::part;
 use text_read::rows::row_byte;
 use text_read::rows::row_count;
+use text_session::line::given_row;
+use text_session::matching::Matching;
+use text_session::matching::begun;
+use text_session::matching::compare;
+use text_session::matching::is_all;
 ghost use mathlib.Core.Path.{_≡_};
 ghost use Prim.Native.Nat.{_≤_};
 ghost use lib.ListN.{length, take};

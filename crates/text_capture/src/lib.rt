@@ -1,11 +1,8 @@
 // A capture of another programmer's session, looked over (02, M-111): its lines one after the other, each with what our chip gives to the line before it.
 mod heard;
-pub mod line;
-mod matching;
 pub mod told;
 
 use heard::hear;
-use line::is_line;
 use rules::Chip;
 use rules::Options;
 use rules::Phase;
@@ -15,13 +12,11 @@ use rules::capture::CaptureVerdict;
 use standin_state::lent::flash_verdict;
 use standin_state::resting::at_rest;
 use text_read::line::line_end;
+use text_session::line::fits;
+use text_session::line::is_line;
 ghost use mathlib.Core.Path.{_≡_};
-ghost use mathlib.Core.Bool.{cond};
-ghost use mathlib.Core.List.{[], _∷_};
-ghost use lib.Dec.{eqb};
 ghost use lib.ListN.{length};
 ghost use Rattle.rules.specs.declared.Verdict.the-variants.{Accepted};
-ghost use Rattle.rules.specs.Chip.{same};
 ghost use Rattle.rules.specs.Lines.{linesOf};
 ghost use Rattle.rules.specs.StandIn.{flashVerdict};
 ghost use Rattle.rules.specs.Capture.{stated, judged, captured, captureNumber, captureLine};
@@ -32,16 +27,6 @@ ghost use Rattle.text_capture.specs.Looking.{lookedAs};
 pub struct LookedOver {
     pub verdict: CaptureVerdict,
     pub options: Options,
-}
-
-// Whether a line fits behind so many lines: the first is a power-on, a later one gives just what is due.
-fn fits(done: usize, line: &[u8], right: bool) -> bool
-    ensures { λ r. ⌜ r ≡ cond (eqb done 0) (same (now (line .entry)) (0x21 ∷ [])) right ⌝ }
-{
-    if done == 0 {
-        return octets::same_bytes(line, b"!");
-    }
-    right
 }
 
 // The lines one after the other, from a chip whose power is off. Each is looked at with the one before it, which the chip hears only then; behind the last

@@ -18,7 +18,7 @@ use Rattle.rules.specs.Chip.{Memory, flashOf, withFlash}
 use Rattle.rules.specs.Hex.{dataOf, anyGiven, putBytes, taken, liesIn, bytesIn, bytesAt}
 use Rattle.rules.proofs.Choices.{and-false}
 use Rattle.text_cells.specs.OneFlash.{Held, heldIn}
-use Rattle.text_cells.proofs.Records.{data-at}
+use Rattle.text_record.proofs.Records.{data-at}
 
 module _ (cs : List ℕ) (i : ℕ) where
   pub given-here : i < length cs → getD cs i 0 < 256 → anyGiven (drop i cs) ≡ true

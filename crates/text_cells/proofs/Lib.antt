@@ -1,4 +1,3 @@
-pub mod Records
 pub mod Given
 pub mod TakenLines
 pub mod Outside

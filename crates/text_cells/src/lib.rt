@@ -1,18 +1,17 @@
 // A HEX text read into cells, one for every byte of the small chip's flashes: line by line, in one pass (02, M-103).
 pub mod cells;
-pub mod record;
 
 use cells::bytes_in;
-use record::joined;
-use record::kind_of;
-use record::wide;
-use record::without_cr;
 use rules::hex::HexLine;
 use rules::hex::HexRead;
 use rules::hex::HexRefusal;
 use text_read::line::line_end;
 use text_read::part;
 use text_read::rows::pairs_byte;
+use text_record::joined;
+use text_record::kind_of;
+use text_record::wide;
+use text_record::without_cr;
 ghost use mathlib.Core.Path.{_≡_};
 ghost use Prim.Native.Nat.{ℕ, _+_, _*_, _<_};
 ghost use lib.ListN.{length, drop};

@@ -15,7 +15,7 @@ returns : tie.Need-returns
 unfolding absorbedIn
 returns c =
     let h = sym (told (c .before)) ∙ c .if1 .taken in
-    (sym h, (c .before .before .before .step-at .ensures, rw h))
+    (sym h, ((c .before .before .before .step-at .ensures, c .before .before .count .ensures .0), rw h))
 
 absorb-in-requires : tie.Need-absorb-in-requires
 absorb-in-requires c κs =
@@ -28,7 +28,7 @@ returns-2 c =
     let g = c .before .before in
     let x = g .before .before .before in
     let h = sym (told x) ∙ g .before .before .if1 .left in
-    (sym h, (x .before .before .step-at .ensures, g .absorb-in .ensures ∙ rw h))
+    (sym h, ((x .before .before .step-at .ensures, x .before .count .ensures .0), g .absorb-in .ensures ∙ rw h))
 
 pub absorb-or-lost-spec : {M : Type 1} → statement M
 absorb-or-lost-spec =

@@ -7,7 +7,7 @@ use Rattle.rules.specs.declared.Flash.the-variants.{Code, Data}
 use Rattle.rules.specs.Lines.{pairBytes}
 use Rattle.rules.specs.Hex.{dataOf}
 use Rattle.chip_finder.specs.LentFlashes.{memory}
-use Rattle.text_cells.proofs.Records.{data-length}
+use Rattle.text_record.proofs.Records.{data-length}
 use Rattle.text_cells.proofs.Given.{held-in, at-none, at-code, at-data, at-gap, at-end}
 use borrow.Author.Needs.{needs}
 use Rattle.text_cells.proofs.bytes_at.Statement.{statement}

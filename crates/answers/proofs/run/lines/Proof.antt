@@ -17,18 +17,18 @@ abbrev μ-loop : tie.MeasureT-loop
 -- the line ends in the text, and so its LF can be counted, and less is left
 add-at : tie.Need-add-at Inv-loop μ-loop
 add-at c =
-    let e = c .before .before .before .before .before .before .before .before .before .before .before .before .before .before .before .before .before .before in
+    let e = c .before .before .before .before .before .before .before .before .before .before .before .before .before .before in
     let l = e .before .before .before .loop in
     record { fits = omega (arith, e .if1 .left, l .inv .0) }
 
 loop-less : tie.Need-loop-less Inv-loop μ-loop
 loop-less c =
-    let e = c .before .before .before .before .before .before .before .before .before .before .before .before .before .before .before .before .before .before in
+    let e = c .before .before .before .before .before .before .before .before .before .before .before .before .before .before in
     omega (arith, e .if1 .left, e .before .line-end .ensures, e .before .before .loop-test .taken)
 
 loop-again : tie.Need-loop-again Inv-loop μ-loop
 loop-again c =
-    let e = c .before .before .before .before .before .before .before .before .before .before .before .before .before .before .before .before .before .before in
+    let e = c .before .before .before .before .before .before .before .before .before .before .before .before .before .before in
     let l = e .before .before .before .loop in (
       l .inv .0,
       omega (arith, l .inv .1, e .before .line-end .ensures),
@@ -53,8 +53,6 @@ lines-spec =
     (λ c. search needs)
     (λ c. search needs)
     (λ c. search needs)
-    (λ c κs. search needs)
-    (λ c κs. search needs)
     (λ c κs. search needs)
     (λ c κs. search needs)
     (λ c κs. search needs)

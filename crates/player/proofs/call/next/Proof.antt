@@ -36,22 +36,22 @@ returns-3 c =
     numbered _ _ (rw (c .stands3 .ensures) (sym (refused-P2 (a .chip) (a .sheet .now) (a .p) (a .reply .now) (a .frame .now) (a .sums .now) (judged x) (e .if1 .left) (sym (k .absorb-or-lost .ensures .0) ∙ c .before .if2 .taken) _ _ (k .absorb-or-lost .ensures .1 .1))))
 
 -- the frame that was given, in the step that was read before or now
-given-here : (g : tie.After-emit-step) → let k = g .before .before .before .before .before .before .before .before in let a = k .before .before .before .before .before .before .before .before .before .before .args in
-    emittedAt (g .before .before .count .result) (g .before .before .before .step-now .result) (a .sheet .now) (k .absorb-or-lost .result .player) (a .frame .now)
+given-here : (g : tie.After-emit-step) → let k = g .before .before .before .before .before .before .before in let a = k .before .before .before .before .before .before .before .before .before .before .args in
+    emittedAt (k .absorb-or-lost .result .count) (g .before .before .step-now .result) (a .sheet .now) (k .absorb-or-lost .result .player) (a .frame .now)
     ≡ emittedInto (a .chip) (a .sheet .now) (k .absorb-or-lost .result .player) (a .frame .now)
 given-here g =
     let x = g .before .before in
-    let k = x .before .before .before .before .before .before in
+    let k = x .before .before .before .before .before in
     let a = k .before .before .before .before .before .before .before .before .before .before .args in
     let q = k .absorb-or-lost .result .player in
-    ap (λ (n : ℕ). emittedAt n (x .before .step-now .result) (a .sheet .now) q (a .frame .now)) (x .count .ensures .0)
-    ∙ ap (λ (t : Step). emittedAt (count (a .sheet .now)) t (a .sheet .now) q (a .frame .now)) (x .before .step-now .ensures (k .absorb-or-lost .ensures .1 .0))
+    ap (λ (n : ℕ). emittedAt n (x .step-now .result) (a .sheet .now) q (a .frame .now)) (k .absorb-or-lost .ensures .1 .0 .1)
+    ∙ ap (λ (t : Step). emittedAt (count (a .sheet .now)) t (a .sheet .now) q (a .frame .now)) (x .step-now .ensures (k .absorb-or-lost .ensures .1 .0 .0))
 
 returns-4 : tie.Need-returns-4
 returns-4 c =
     let n = c .before in
     let g = n .before .before .before .before in
-    let i = g .before .before .before .before .before in
+    let i = g .before .before .before .before in
     let k = i .before .before .before in
     let e = k .before .before in
     let x = e .before in
@@ -75,7 +75,6 @@ next-spec =
     (λ c κs. search needs)
     (λ c. search needs)
     returns-3
-    (λ c κs. search needs)
     (λ c κs. search needs)
     (λ c κs. search needs)
     (λ c κs. search needs)

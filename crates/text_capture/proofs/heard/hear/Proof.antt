@@ -9,7 +9,7 @@ use Rattle.rules.specs.StandIn.{received}
 use Rattle.chip_finder.specs.LentFlashes.{memory}
 use Rattle.standin_state.specs.declared.Core.{Core}
 use Rattle.standin_engine.specs.View.{view}
-use Rattle.text_capture.proofs.Matches.{none-due}
+use Rattle.text_session.proofs.Matches.{none-due}
 use Rattle.text_capture.proofs.Hearing.{sent-state, sent-due, hears-power, hears-else}
 use borrow.Author.Needs.{needs}
 use Rattle.text_capture.proofs.heard.hear.Statement.{statement}

@@ -12,8 +12,8 @@ use Rattle.rules.specs.StandIn.{feed}
 use Rattle.chip_finder.specs.LentFlashes.{memory}
 use Rattle.standin_state.proofs.Lending.{all-lent}
 use Rattle.standin_engine.specs.View.{view}
-use Rattle.text_capture.specs.Looking.{matches}
-use Rattle.text_capture.proofs.Matches.{at-first}
+use Rattle.text_session.specs.Session.{matches}
+use Rattle.text_session.proofs.Matches.{at-first}
 use Rattle.text_capture.proofs.Hearing.{front-part, row-state, row-answers, row-end-state, row-end-answers}
 use borrow.Author.Needs.{needs}
 use Rattle.text_capture.proofs.heard.hear_row.Statement.{statement}

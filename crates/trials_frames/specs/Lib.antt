@@ -1,0 +1,9 @@
+pub mod Starred
+pub mod Trials
+pub mod Texts
+pub mod Chips
+pub mod Blank
+pub mod BadFrames
+pub mod WholeFrames
+pub mod Twice
+pub mod Forms

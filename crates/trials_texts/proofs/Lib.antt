@@ -1,0 +1,3 @@
+pub mod HexTexts
+pub mod Captures
+pub mod Trials

@@ -1,0 +1,2 @@
+pub mod HexTexts
+pub mod Captures

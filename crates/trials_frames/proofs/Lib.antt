@@ -1,2 +1,3 @@
 pub mod WholeFrames
 pub mod Trials
+pub mod StepRuns

@@ -7,3 +7,4 @@ pub mod BadFrames
 pub mod WholeFrames
 pub mod Twice
 pub mod Forms
+pub mod StepRuns

@@ -1,5 +1,7 @@
 // The stand-in by itself: reads a script of text lines from standard input and writes what the chip answers. With an argument, whatever it is, a rig keeps
 // the chip's record and lends it for each byte; that is said on standard error, since nothing else tells the two ways apart.
+#![tactic(auto)]
+
 mod run;
 
 use text_lines::lines;

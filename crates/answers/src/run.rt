@@ -13,7 +13,7 @@ use text_script::session::Session;
 use text_script::{handed, script_line, send, session, show};
 
 // What stands between two lines.
-#[derive(Drop)]
+#[derive(Clone, Copy)]
 struct Between {
     session: Session,
     sheet: InHand,

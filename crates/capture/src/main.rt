@@ -1,5 +1,7 @@
 // The program: a capture from standard input, looked over from a fresh small chip, or from the chip that a file states whose name is the argument. The
 // verdict is one line on standard output. What stands in that line is promised by `look_over` and `put_verdict` for every input.
+#![tactic(auto)]
+
 ghost use Rattle.std.specs.Prelude.{◌≡◌, length};
 
 use rules::Flash;

@@ -1,1 +1,3 @@
 // The verdict on a capture: facts about the definitions alone, with no code of their own. What is said stands in specs/ and, with its proof, in proofs/.
+
+#![tactic(auto)]

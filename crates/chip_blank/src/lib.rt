@@ -1,4 +1,6 @@
 // The first byte of a range that is in use, by its block and its page.
+#![tactic(auto)]
+
 ghost use Rattle.std.specs.Prelude.{◌≡◌, ◌*◌, ◌≤◌, length};
 ghost use Rattle.rules.specs.Chip.{block_size, blocks_from};
 ghost use Rattle.rules.specs.Command.{used_from};

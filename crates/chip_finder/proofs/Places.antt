@@ -1,6 +1,6 @@
 -- Laws of places: where the parts from first to last lie in a flash, and what is cut out or put in there. Assumes nothing.
 use mathlib.Core.Path.{◌≡◌, refl, sym, ap, ◌∙◌}
-use mathlib.Core.Bool.{true, false, ◌&&◌, and_true}
+use mathlib.Core.Bool.{true, false, ◌&&◌, and-true}
 use mathlib.Core.List.{List, []}
 use Prim.Native.Nat.{ℕ, ◌+◌, ◌-◌, ◌*◌, ◌<◌, ◌≤◌}
 use native.Mathlib.Nat.{mul-le-mul, mul-le-mul_right, suc-mul, mul_comm, mul-sub, add-sub_cancel_left, one-mul}
@@ -97,7 +97,7 @@ one_size {len} {size} {count} {n} p = let e = times n size in omega arith
 
 -- the test of one part
 one_there : (len size count n : ℕ) → are_there len size count n n ≡ is_there len size count n
-one_there len size count n = rw (le-leb n n (omega arith)) (and_true (is_there len size count n))
+one_there len size count n = rw (le-leb n n (omega arith)) (and-true (is_there len size count n))
 
 pub is_there_lem : {len size count n at end : ℕ} → Placed len size count n n at end → is_there len size count n ≡ true
 is_there_lem {len} {size} {count} {n} p = sym (one_there len size count n) ∙ there p

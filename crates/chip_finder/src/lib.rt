@@ -1,5 +1,7 @@
 // The finder: only here a block number becomes an address or an address a block number, and only here a block or page
 // gets its place in a lent flash. Each rule is said once, over the start, the size and the number of parts.
+#![tactic(auto)]
+
 ghost use Rattle.std.specs.Prelude.{◌≡◌, ◌+◌, ◌-◌, ◌*◌, ◌<◌, ◌≤◌, eqb, length};
 ghost use Rattle.rules.specs.Chip.{same_counts, known, block_size, start, blocks, flash_size, pages_per_block, page_size, pages, flash_of, first_byte, last_byte, erase_address, range, nowhere, invalid, shown, block_shown, page_shown};
 ghost use Rattle.chip_finder.specs.LentFlashes.{memory, range_shown};
@@ -123,7 +125,7 @@ fn last_offset(f: Flash) -> u32
 // ---- from an address to its block ----
 
 // A byte by its block and its offset in it, or no byte of the flash.
-#[derive(Drop)]
+#[derive(Clone, Copy)]
 enum Spot {
     At(Block, u32),
     Outside,
@@ -252,7 +254,7 @@ pub fn is_invalid(range: Range) -> bool
 // ---- from a block or page to its part of a flash ----
 
 // Where parts lie in a flash: from and up to which byte, or not there.
-#[derive(Drop)]
+#[derive(Clone, Copy)]
 pub enum Place {
     Bytes(usize, usize),
     Missing,

@@ -1,6 +1,8 @@
 // The program: a sheet from standard input, and on standard output that sheet in the other form, by the way that its argument says, `up` or `down`; or,
 // where it is refused, one line on standard error. What stands in either buffer that is written is promised by `move_up`, `move_down` and
 // `put_refused` for every input.
+#![tactic(auto)]
+
 ghost use Rattle.std.specs.Prelude.{◌≡◌, length};
 
 use octets::same_bytes;

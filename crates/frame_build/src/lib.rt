@@ -1,4 +1,6 @@
 // Building frames in lent buffers; bytes behind the frame keep their contents.
+#![tactic(auto)]
+
 ghost use Rattle.std.specs.Prelude.{◌≡◌, ◌+◌, ◌%◌, ◌<◌, ◌==◌};
 ghost use Rattle.rules.specs.Chip.{total};
 ghost use Rattle.rules.specs.Frame.{one, pair};

@@ -1,4 +1,6 @@
 // Judging the whole frame that a buffer holds by its own LEN, in the order of the status table.
+#![tactic(auto)]
+
 ghost use Rattle.std.specs.Prelude.{◌≡◌, ◌≤◌};
 ghost use Rattle.rules.specs.First.{first_fault};
 ghost use Rattle.rules.specs.Frame.{body_size, frame_size, end_of, end_due, sum_holds, status_byte, note_of, data_fault};

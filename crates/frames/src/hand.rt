@@ -8,7 +8,7 @@ use text_read::{in_hand, part, rows};
 
 // Between two lines: the sheet, how many entries and bytes are lent, and the chip that sheets are judged against. Until a play has begun the record is that of a
 // player before its first call.
-#[derive(Drop)]
+#[derive(Clone, Copy)]
 pub(crate) struct Hand {
     pub(crate) sheet: InHand,
     pub(crate) sums: usize,

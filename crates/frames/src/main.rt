@@ -1,4 +1,6 @@
 // The player by itself: reads a script of text lines from standard input, replies among them, and writes the frames that the player gives.
+#![tactic(auto)]
+
 mod hand;
 mod run;
 mod script_line;

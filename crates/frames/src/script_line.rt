@@ -5,7 +5,7 @@ use text_read::number::Number;
 use text_read::part::starts_with;
 use text_read::{chips, in_hand, number, part, rows};
 
-#[derive(Drop)]
+#[derive(Clone, Copy)]
 pub(crate) enum Line {
     Bad,
     OfChip(Chip),

@@ -1,2 +1,4 @@
 // A sheet made of a HEX text: facts about the definitions alone, with no code of their own. What is said stands in specs/ and, with its proof,
 // in proofs/.
+
+#![tactic(auto)]

@@ -1,4 +1,6 @@
 // What has to be before a turn is made, in the order of the refusals.
+#![tactic(auto)]
+
 ghost use Rattle.std.specs.Prelude.{◌≡◌};
 ghost use Rattle.rules.specs.Chip.{Memory};
 ghost use Rattle.rules.specs.StandIn.{task_now, received};
@@ -14,7 +16,7 @@ use standin_state::Core;
 use standin_state::lent::lent_verdict;
 
 // How long the lent flashes and buffers are.
-#[derive(Drop)]
+#[derive(Clone, Copy)]
 pub struct LentSizes {
     pub code: usize,
     pub data: usize,

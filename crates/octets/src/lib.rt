@@ -1,4 +1,6 @@
 // Bytes in a row; numbers of several bytes.
+#![tactic(auto)]
+
 pub mod numbers;
 
 ghost use Rattle.std.specs.Prelude.{◌≡◌, ◌+◌, ◌-◌, ◌%◌, length, replicate, ◌≢◌};

@@ -1,5 +1,7 @@
 // The program: a sheet from standard input, played to a fresh chip, and the text of the play on standard output. What stands in the buffer that is
 // written is promised by `play_fresh` for every input.
+#![tactic(auto)]
+
 ghost use Rattle.std.specs.Prelude.{◌≡◌, length};
 
 use text_input::Input;

@@ -14,7 +14,7 @@ use sheet::judge::verdict;
 use sheet::steps::step_at;
 
 // The record after a call, what the call answered, and the report.
-#[derive(Drop)]
+#[derive(Clone, Copy)]
 pub struct Called {
     pub player: Player,
     pub next: Next,

@@ -1,4 +1,6 @@
 // A reply is taken in: what the player makes of it, and the entry in the list of sums.
+#![tactic(auto)]
+
 ghost use Rattle.std.specs.Prelude.{◌≡◌, true, false, List, ℕ, ◌<◌, set};
 ghost use Rattle.rules.specs.declared.Stage.TheVariants.{Over};
 ghost use Rattle.rules.specs.Sheet.{count, step_at, step_blocks, step_pages};
@@ -217,7 +219,7 @@ fn absorb_in(chip: Chip, sheet: &[u8], t: Step, p: Player, reply: &[u8], sums: &
 
 // A player after a reply, and whether it was lost before: then it stands. And the step that it was in and how many the sheet has, so that a caller
 // need not read them again.
-#[derive(Drop)]
+#[derive(Clone, Copy)]
 pub struct AbsorbedOrLost {
     pub lost: bool,
     pub player: Player,

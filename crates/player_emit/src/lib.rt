@@ -1,4 +1,6 @@
 // The next frame is given: whole, over the first bytes of a lent buffer. Its addresses come only from the finder.
+#![tactic(auto)]
+
 ghost use Rattle.std.specs.Prelude.{◌≡◌, false, [], ◌∷◌, ◌++◌, ◌+◌, ◌*◌, ◌<◌, ◌≤◌, length, take};
 ghost use Rattle.rules.specs.Sheet.{step_blocks, step_pages};
 ghost use Rattle.rules.specs.Player.{player, counted, sends, command, pair_bytes, lock_command, block_command, first_command, page_frame, lost_in};
@@ -22,7 +24,7 @@ const BLANK_CHECK: u8 = 0x32;
 const SECURITY_SET: u8 = 0xA0;
 
 // The player after a frame, and how many bytes the frame has; 0 where none is given.
-#[derive(Drop)]
+#[derive(Clone, Copy)]
 pub struct Emitted {
     pub player: Player,
     pub sent: usize,

@@ -1,2 +1,4 @@
 // The moves of a player: facts about the definitions alone, with no code of their own. What is said stands in specs/ and, with its proof,
 // in proofs/.
+
+#![tactic(auto)]

@@ -1,4 +1,6 @@
 // Where a player stands in a sheet: whether its step, block or page is there at all.
+#![tactic(auto)]
+
 ghost use Rattle.std.specs.Prelude.{◌≡◌, ◌&&◌, not};
 ghost use Rattle.rules.specs.Player.{step_in, command_in, page_in, lost_in, lost};
 

@@ -1,4 +1,6 @@
 // Replies: exactly what is due, or L1. A reply is compared with the fixed frame of `wire` first; only what differs from it is decoded.
+#![tactic(auto)]
+
 ghost use Rattle.std.specs.Prelude.{◌≡◌, ◌≤◌};
 ghost use Rattle.rules.specs.Sheet.{clears};
 ghost use Rattle.rules.specs.Player.{framed, command_reply, sum_reply, sum_in, no_reply, lock_reply, data_reply, is_well};

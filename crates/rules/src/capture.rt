@@ -3,7 +3,7 @@ use super::Refusal;
 
 // Accepted; or the number of the first line that is wrong or of bad form, from 1, one past the end for an answer that is missing there; or what was lent
 // is refused, and no line was looked at.
-#[derive(Drop)]
+#[derive(Clone, Copy)]
 pub enum CaptureVerdict {
     Accepted,
     Wrong(usize),

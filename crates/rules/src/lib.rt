@@ -1,5 +1,7 @@
 // The vocabulary: the types that promises speak of. What they mean stands in specs/, in document 01's order.
 
+#![tactic(auto)]
+
 pub mod capture;
 pub mod hex;
 pub mod numbers;
@@ -10,42 +12,42 @@ pub const FRAME_ROOM: usize = 260;
 pub const REPLY_ROOM: usize = 16;
 
 // A chip: how many blocks its code flash and its data flash have. Two are known.
-#[derive(Drop)]
+#[derive(Clone, Copy)]
 pub struct Chip {
     pub code: u16,
     pub data: u16,
 }
 
-#[derive(Drop)]
+#[derive(Clone, Copy)]
 pub enum Flash {
     Code,
     Data,
 }
 
 // The address of a byte, as every command but those of the window names it.
-#[derive(Drop)]
+#[derive(Clone, Copy)]
 pub struct Address(pub u32);
 
 // The number of a block in its flash, as the window names it. Only the finder turns one into the other.
-#[derive(Drop)]
+#[derive(Clone, Copy)]
 pub struct Block(pub u16);
 
 // Where an address lies.
-#[derive(Drop)]
+#[derive(Clone, Copy)]
 pub enum Found {
     In(Flash, Block),
     Nowhere,
 }
 
 // What a pair of addresses names: the first and the last block, or no valid pair.
-#[derive(Drop)]
+#[derive(Clone, Copy)]
 pub enum Range {
     Blocks(Flash, Block, Block),
     Invalid,
 }
 
 // The options as stored: two flag bytes and two window words.
-#[derive(Drop)]
+#[derive(Clone, Copy)]
 pub struct Options {
     pub sf1: u8,
     pub sf2: u8,
@@ -53,7 +55,7 @@ pub struct Options {
     pub swe: u16,
 }
 
-#[derive(Drop)]
+#[derive(Clone, Copy)]
 pub enum Phase {
     Mode,
     Speed,
@@ -63,7 +65,7 @@ pub enum Phase {
 }
 
 // The pages that a command still waits for: the next one, how many are left with it, and what is known of those before it.
-#[derive(Drop)]
+#[derive(Clone, Copy)]
 pub struct Pages {
     pub flash: Flash,
     pub page: usize,
@@ -72,7 +74,7 @@ pub struct Pages {
 }
 
 // The command begun that waits for data.
-#[derive(Drop)]
+#[derive(Clone, Copy)]
 pub enum Task {
     Idle,
     Programming(Pages),
@@ -80,14 +82,14 @@ pub enum Task {
 }
 
 // A row of the command table: the length that a code must have, and the number of the phase that allows it.
-#[derive(Drop)]
+#[derive(Clone, Copy)]
 pub enum CodeRow {
     Row { len: u8, phase: u8 },
     Unknown,
 }
 
 // A command whose information is read: the blocks, flags and words that it names, and TAR. The ten bytes of an ID stay in its frame.
-#[derive(Drop)]
+#[derive(Clone, Copy)]
 pub enum Order {
     Reset,
     Verify(Flash, Block, Block),
@@ -105,7 +107,7 @@ pub enum Order {
 }
 
 // The information of a command frame: an order, or not valid (05h).
-#[derive(Drop)]
+#[derive(Clone, Copy)]
 pub enum Decoded {
     Is(Order),
     Bad,
@@ -113,7 +115,7 @@ pub enum Decoded {
 
 // The stand-in's own note, off the wire, on one byte: nothing; the first byte in use, by its flash, its block there and its page in the block; an
 // option bit that is not 1; a wrong end byte; or a wrong length, by the LEN expected and the LEN found.
-#[derive(Drop)]
+#[derive(Clone, Copy)]
 pub enum Note {
     Empty,
     Used(Flash, Block, usize),
@@ -123,7 +125,7 @@ pub enum Note {
 }
 
 // The verdict on a frame: the first row of 01's status table that applies, with what the note tells of it.
-#[derive(Drop)]
+#[derive(Clone, Copy)]
 pub enum Fault {
     Well,
     EndByte,
@@ -139,14 +141,14 @@ pub enum Fault {
 }
 
 // A command frame judged: its first fault, or the order to be done.
-#[derive(Drop)]
+#[derive(Clone, Copy)]
 pub enum Judged {
     Faulty(Fault),
     Ordered(Order),
 }
 
 // The refusals that 01 and 02 number.
-#[derive(Drop)]
+#[derive(Clone, Copy)]
 pub enum Refusal {
     D0,
     D1,
@@ -174,19 +176,19 @@ pub enum Refusal {
 }
 
 // The answer of a power-on or a byte call: refused, or so many bytes answered.
-#[derive(Drop)]
+#[derive(Clone, Copy)]
 pub enum Call {
     Refused(Refusal),
     Answer(usize),
 }
 
-#[derive(Drop)]
+#[derive(Clone, Copy)]
 pub enum Verdict {
     Accepted,
     Refused(Refusal),
 }
 
-#[derive(Drop)]
+#[derive(Clone, Copy)]
 pub enum Kind {
     Erase,
     Write,
@@ -197,14 +199,14 @@ pub enum Kind {
 }
 
 // The two flag bytes that a lock sends.
-#[derive(Drop)]
+#[derive(Clone, Copy)]
 pub struct Flags {
     pub sf1: u8,
     pub sf2: u8,
 }
 
 // A step of a sheet: its kind, its blocks (of a lock its flags) and where its body stands in the sheet.
-#[derive(Drop)]
+#[derive(Clone, Copy)]
 pub struct Step {
     pub kind: Kind,
     pub flash: Flash,
@@ -217,7 +219,7 @@ pub struct Step {
 // What the player is about, and within a step the kind of the step that was begun. New has sent nothing. Ready is at the beginning of a step,
 // about to send its first frame; Block and Page are about to send block `at` of an erase and page `at` of a write or a verify.
 // Commanded waits for the answer to a command frame, Paged for the answer to page `at`. Over is finished or stopped.
-#[derive(Drop)]
+#[derive(Clone, Copy)]
 pub enum Stage {
     New,
     Ready,
@@ -229,14 +231,14 @@ pub enum Stage {
 }
 
 // The status of a play: a byte of 01's table, or L1.
-#[derive(Drop)]
+#[derive(Clone, Copy)]
 pub enum Status {
     Byte(u8),
     L1,
 }
 
 // The player between two calls: `step` counts the finished steps, `at` is the block or page in the step.
-#[derive(Drop)]
+#[derive(Clone, Copy)]
 pub struct Player {
     pub stage: Stage,
     pub step: usize,
@@ -246,7 +248,7 @@ pub struct Player {
     pub status: Status,
 }
 
-#[derive(Drop)]
+#[derive(Clone, Copy)]
 pub struct Report {
     pub status: Status,
     pub steps: usize,
@@ -255,7 +257,7 @@ pub struct Report {
 }
 
 // The answer of a player call: refused, a frame of so many bytes, or the end.
-#[derive(Drop)]
+#[derive(Clone, Copy)]
 pub enum Next {
     Refused(Refusal),
     Frame(usize),
@@ -263,7 +265,7 @@ pub enum Next {
 }
 
 // The answer of a move of a sheet to the other form: a sheet of so many bytes, or the refusal.
-#[derive(Drop)]
+#[derive(Clone, Copy)]
 pub enum Moved {
     Sheet(usize),
     Refused(Refusal),

@@ -5,7 +5,7 @@ ghost use Rattle.rules.specs.Numbers.{refusal_number, kind_number};
 use super::{Kind, Refusal};
 
 // A letter of 01's names by its ASCII code (0 for none), and the number behind it.
-#[derive(Drop)]
+#[derive(Clone, Copy)]
 pub struct Number {
     pub letter: u8,
     pub number: u8,

@@ -4,7 +4,7 @@ use text_read::part;
 use text_told::lines::put_refused;
 
 // The input ended (or the most bytes were taken); or what stopped it.
-#[derive(Drop)]
+#[derive(Clone, Copy)]
 pub(crate) enum End {
     Well,
     Refused(Refusal),

@@ -1,6 +1,8 @@
 // The program: the stand-in on a byte stream. Bytes from standard input go to a chip that was just powered on, a fresh small one or the one that a file
 // states, and each answer is written to standard output as soon as it is given. The first argument names the chip file and the second a log; where one is
 // missing or empty there is no such file. What goes to the chip, what it answers and the lines of the log are promised by `serve` and `put_turn`.
+#![tactic(auto)]
+
 mod end;
 mod files;
 mod stream;

@@ -16,7 +16,7 @@ const READ: usize = 1024;
 const ROOM: usize = 3124;
 
 // The chip after a read, and whether the session goes on.
-#[derive(Drop)]
+#[derive(Clone, Copy)]
 struct After {
     device: Device,
     end: End,

@@ -158,7 +158,7 @@ fn entry_verdict(chip: Chip, sheet: &[u8], e: Entry, most: u8, due: usize, last:
 }
 
 // The verdict on the entries, and where the last body ends if they are accepted.
-#[derive(Drop)]
+#[derive(Clone, Copy)]
 struct Entries {
     verdict: Verdict,
     end: usize,

@@ -37,7 +37,7 @@ pub fn against(sheet: &[u8]) -> Chip
 }
 
 // The head: whether it is of form 2, how many bytes stand before the entries, and how many steps it says. Whatever asks for a place asks here.
-#[derive(Drop)]
+#[derive(Clone, Copy)]
 pub struct Head {
     pub two: bool,
     pub size: usize,
@@ -86,7 +86,7 @@ pub fn table_end(sheet: &[u8]) -> usize
 // ---- entries ----
 
 // An entry as it stands in the table.
-#[derive(Drop)]
+#[derive(Clone, Copy)]
 pub struct Entry {
     pub kind: u8,
     pub sad: Address,

@@ -1,4 +1,6 @@
 // Rows of marks, one byte a block of a flash: which blocks stand written (02, M-107). A block that has no byte there is passed over.
+#![tactic(auto)]
+
 pub mod steps;
 
 ghost use Rattle.std.specs.Prelude.{◌≡◌, ◌+◌, ◌≤◌, ◌<◌};

@@ -1,4 +1,6 @@
 // A sheet moved to the other form (02, M-106), byte by byte: its entries and bodies as they stand, but for the offset in each entry.
+#![tactic(auto)]
+
 mod put;
 mod way;
 

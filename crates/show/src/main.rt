@@ -1,5 +1,7 @@
 // The program: a sheet from standard input, and what it is told as on standard output. What stands in the buffer that is written is promised by `tell` for
 // every input.
+#![tactic(auto)]
+
 ghost use Rattle.std.specs.Prelude.{◌≡◌, length};
 
 use text_input::Input;

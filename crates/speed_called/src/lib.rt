@@ -1,5 +1,7 @@
 // The entry that measures the engine as a call: it has a second caller in this archive, so that the compiler puts it into neither, as in a
 // program that calls it from two places.
+#![tactic(auto)]
+
 use speed_calls::byte_calls::{each_byte, starting};
 use standin_engine::{Change, byte_change};
 

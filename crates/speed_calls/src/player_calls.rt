@@ -64,7 +64,7 @@ pub fn reported(sum: usize, r: Report) -> usize {
 }
 
 // The player after a call, and the digest with what it gave.
-#[derive(Drop)]
+#[derive(Clone, Copy)]
 struct Turn {
     player: Player,
     sum: usize,

@@ -1,4 +1,6 @@
 // The entry that measures the whole-frame engine. It stands alone in its archive, as that of the call by value does.
+#![tactic(auto)]
+
 ghost use Rattle.std.specs.Prelude.{◌<◌, ◌≤◌, length};
 
 use speed_calls::byte_calls::{answered, starting};

@@ -1,4 +1,6 @@
 // The entry that measures the same play on the larger chip. It stands alone in its archive, as that of the play on the small one does.
+#![tactic(auto)]
+
 use joined::whole::play;
 use speed_calls::byte_calls::waiting;
 use speed_play::outcome;

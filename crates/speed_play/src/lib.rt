@@ -1,4 +1,6 @@
 // The entry that measures a whole play. It stands alone in its archive, as a program that plays a sheet does.
+#![tactic(auto)]
+
 use joined::Answer;
 use joined::whole::play;
 use player::report::report;

@@ -1,5 +1,7 @@
 // The entry that measures the call by value. It stands alone in its archive: with two callers in one module the compiler would not put
 // the engine into either of them.
+#![tactic(auto)]
+
 use speed_calls::byte_calls::{answered, starting};
 use standin::call::{Device, byte_call};
 

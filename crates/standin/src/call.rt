@@ -15,7 +15,7 @@ use standin_engine::ByteAnswer;
 use standin_state::Core;
 
 // The record between two calls: which chip it is, the small state, and the bytes of the frame in hand.
-#[derive(Drop)]
+#[derive(Clone, Copy)]
 pub struct Device {
     pub chip: Chip,
     pub core: Core,
@@ -23,14 +23,14 @@ pub struct Device {
 }
 
 // The record after a byte call, and what the call answered.
-#[derive(Drop)]
+#[derive(Clone, Copy)]
 pub struct Answered {
     pub device: Device,
     pub answer: ByteAnswer,
 }
 
 // The record after a power-on, and what that answered.
-#[derive(Drop)]
+#[derive(Clone, Copy)]
 pub struct PoweredOn {
     pub device: Device,
     pub call: Call,

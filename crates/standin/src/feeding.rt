@@ -10,7 +10,7 @@ use standin_engine::Change;
 use standin_state::Core;
 
 // The device after the bytes, how many bytes it answered or the first refusal, and how many bytes it took.
-#[derive(Drop)]
+#[derive(Clone, Copy)]
 pub struct Fed {
     pub core: Core,
     pub call: Call,

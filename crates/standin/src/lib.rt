@@ -1,4 +1,6 @@
 // The stand-in: one received byte a call, power-on, and feeding many bytes.
+#![tactic(auto)]
+
 pub mod call;
 pub mod feeding;
 pub mod opening;

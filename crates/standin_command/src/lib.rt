@@ -1,4 +1,6 @@
 // A whole command frame: its own faults are answered (rows 1 to 4 of the status table); else its command is refused or done.
+#![tactic(auto)]
+
 ghost use Rattle.std.specs.Prelude.{◌≡◌, ◌≤◌, length};
 ghost use Rattle.rules.specs.declared.Task.TheVariants.{Idle};
 ghost use Rattle.rules.specs.Chip.{Memory};

@@ -1,4 +1,6 @@
 // One received byte: the small state by value, the frame in hand in a lent buffer, both flashes and the reply buffer lent.
+#![tactic(auto)]
+
 ghost use Rattle.std.specs.Prelude.{◌≡◌, ℕ, ◌+◌, ◌<◌, ◌≤◌, List, [], length};
 ghost use Rattle.rules.specs.declared.Call.TheVariants.{Answer};
 ghost use Rattle.rules.specs.declared.Note.TheVariants.{Empty};
@@ -18,7 +20,7 @@ pub mod frames;
 
 // What a byte changes: nothing where it is refused; else how many bytes of a frame are held, with nothing answered or noted, or the device by a
 // whole frame or a mode byte. So a byte that only goes on with a frame does not hand the device about.
-#[derive(Drop)]
+#[derive(Clone, Copy)]
 pub enum Change {
     Refused(Refusal),
     Held(usize),
@@ -26,13 +28,13 @@ pub enum Change {
 }
 
 // What a byte call answers: refused, or so many bytes; and the note.
-#[derive(Drop)]
+#[derive(Clone, Copy)]
 pub struct ByteAnswer {
     pub call: Call,
     pub note: Note,
 }
 
-#[derive(Drop)]
+#[derive(Clone, Copy)]
 pub struct CoreAfter {
     pub core: Core,
     pub answer: ByteAnswer,
@@ -74,7 +76,7 @@ fn begin(chip: Chip, c: Core, byte: u8, held: &mut [u8; 260]) -> usize
 
 // What a byte in a phase that takes frames comes to: so many bytes of a frame are held, or the frame is whole. It has nothing of the device in it,
 // so a byte that only goes on with a frame is a number also where the engine is not put into its caller.
-#[derive(Drop)]
+#[derive(Clone, Copy)]
 pub enum Taken {
     Held(usize),
     Whole,

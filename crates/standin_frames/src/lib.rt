@@ -1,5 +1,7 @@
 // The second engine: one whole frame of the kind awaited a call, answered at once (02, M-109). What is not such a frame is refused, with nothing
 // changed.
+#![tactic(auto)]
+
 ghost use Rattle.std.specs.Prelude.{◌≡◌, true, ◌≤◌, length};
 ghost use Rattle.rules.specs.Frame.{whole};
 ghost use Rattle.rules.specs.Numbers.{call_number, note_numbers};

@@ -1,4 +1,6 @@
 // Data frames: a page of Programming, with the delayed write status, and a page of Verify.
+#![tactic(auto)]
+
 ghost use Rattle.std.specs.Prelude.{◌≡◌, true, cond, ◌&&◌, eqb, ◌+◌, ◌<◌, ◌≤◌, length};
 ghost use Rattle.rules.specs.StandIn.{ahead, later, on_page, on_compare, answered, lent_verdict, out, noted, rest};
 ghost use Rattle.rules.specs.Chip.{Memory};

@@ -1,4 +1,6 @@
 // The device's small state, and the phases and commands begun that it goes through.
+#![tactic(auto)]
+
 use rules::{Note, Options, Phase, Task};
 
 pub mod lent;
@@ -7,7 +9,7 @@ pub mod tasks;
 
 // What a device holds between two calls, but for the bytes of the frame in hand: phase, command begun, options, and how many
 // bytes of a frame have come.
-#[derive(Drop)]
+#[derive(Clone, Copy)]
 pub struct Core {
     pub phase: Phase,
     pub task: Task,
@@ -16,7 +18,7 @@ pub struct Core {
 }
 
 // The device after a whole frame, how many bytes it answered, and its note.
-#[derive(Drop)]
+#[derive(Clone, Copy)]
 pub struct Response {
     pub core: Core,
     pub answered: usize,

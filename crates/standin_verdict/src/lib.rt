@@ -1,4 +1,6 @@
 // What refuses a command behind the frame's own rows: its information (row 5 of the status table), then flash and options (rows 6 to 8).
+#![tactic(auto)]
+
 pub mod phases;
 
 ghost use Rattle.std.specs.Prelude.{◌≡◌, not, ◌&&◌, ◌||◌, List, [], ◌∷◌, ℕ, leb, eqb, take, drop};

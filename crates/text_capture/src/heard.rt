@@ -20,14 +20,14 @@ use text_session::line::given_row;
 use text_session::matching::{Matching, begun, compare, is_all};
 
 // The chip after a byte, and how many bytes of the reply buffer it answered.
-#[derive(Drop)]
+#[derive(Clone, Copy)]
 struct HeardByte {
     core: Core,
     answered: usize,
 }
 
 // The chip after a line, and whether the line behind gives just what it answered.
-#[derive(Drop)]
+#[derive(Clone, Copy)]
 pub(crate) struct HeardLine {
     pub(crate) core: Core,
     pub(crate) right: bool,

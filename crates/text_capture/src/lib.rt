@@ -1,4 +1,6 @@
 // A capture of another programmer's session, looked over (02, M-111): its lines one after the other, each with what our chip gives to the line before it.
+#![tactic(auto)]
+
 mod heard;
 pub mod told;
 
@@ -19,7 +21,7 @@ use text_read::line::line_end;
 use text_session::line::{fits, is_line};
 
 // The verdict, and the options as the lines before the one that it names left them.
-#[derive(Drop)]
+#[derive(Clone, Copy)]
 pub struct LookedOver {
     pub verdict: CaptureVerdict,
     pub options: Options,

@@ -1,4 +1,6 @@
 // A HEX text read into cells, one for every byte of the small chip's flashes: line by line, in one pass (02, M-103).
+#![tactic(auto)]
+
 pub mod cells;
 
 ghost use Rattle.std.specs.Prelude.{◌≡◌, ℕ, ◌+◌, ◌*◌, ◌<◌, length, drop};
@@ -49,7 +51,7 @@ fn bytes_at(
 }
 
 // After a line: how far the text is read, and the upper half of addresses.
-#[derive(Drop)]
+#[derive(Clone, Copy)]
 struct After {
     read: HexRead,
     upper: usize,

@@ -1,4 +1,6 @@
 // A HEX text made into a sheet (02, M-103): its bytes are gathered in cells, and every block that holds one is erased, written and verified.
+#![tactic(auto)]
+
 mod bodies;
 mod named;
 mod table;

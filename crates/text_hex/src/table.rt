@@ -12,7 +12,7 @@ use rules::{Address, Block, Flash};
 use text_out::{put, put_bytes};
 
 // Where the next entry goes, and the offset of the next body.
-#[derive(Drop)]
+#[derive(Clone, Copy)]
 struct Next {
     at: usize,
     offset: u32,

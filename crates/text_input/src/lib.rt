@@ -1,7 +1,9 @@
 // Standard input or a file, read to its end; an input that cannot be read is told from one that ends.
 
+#![tactic(auto)]
+
 // How many bytes were read, or that a read failed.
-#[derive(Drop)]
+#[derive(Clone, Copy)]
 pub enum Input {
     Read(usize),
     Failed,

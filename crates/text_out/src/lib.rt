@@ -1,4 +1,6 @@
 // Text appended to a lent buffer: as much of it as there is room for. Each answers the place behind it.
+#![tactic(auto)]
+
 ghost use Rattle.std.specs.Prelude.{◌≡◌, [], ◌∷◌};
 ghost use Rattle.rules.specs.Text.{decimal, hex_digit, hex2, hex4};
 ghost use Rattle.text_out.specs.Out.{out, add};

@@ -15,7 +15,7 @@ use text_told::lines::{put_busy, put_refused};
 use text_told::play::put_play;
 
 // The stand-in after a play, and how many bytes of the buffer are the text.
-#[derive(Drop)]
+#[derive(Clone, Copy)]
 pub struct Told {
     pub core: Core,
     pub size: usize,

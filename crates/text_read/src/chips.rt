@@ -7,7 +7,7 @@ use crate::part;
 use octets::numbers::byte_at;
 use rules::Chip;
 
-#[derive(Drop)]
+#[derive(Clone, Copy)]
 pub enum Named {
     Is(Chip),
     None,

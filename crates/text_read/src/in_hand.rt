@@ -7,7 +7,7 @@ ghost use Rattle.text_read.specs.Sheets.{no_sheet, beginning, Held, after_line};
 use crate::{part, rows};
 
 // How many bytes it has. It grows from its first line up to a line of another kind.
-#[derive(Drop)]
+#[derive(Clone, Copy)]
 pub struct InHand {
     pub growing: bool,
     pub size: usize,

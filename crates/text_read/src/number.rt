@@ -5,7 +5,7 @@ ghost use Rattle.text_read.specs.Numerals.{numeral, decimal_of, hex_of};
 use crate::hex;
 
 // A number read, or none.
-#[derive(Drop)]
+#[derive(Clone, Copy)]
 pub enum Number {
     Value(u32),
     Bad,

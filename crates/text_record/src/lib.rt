@@ -1,4 +1,6 @@
 // A line of a HEX text by itself: a record, or what is wrong with it.
+#![tactic(auto)]
+
 ghost use Rattle.std.specs.Prelude.{◌≡◌, ◌+◌, ◌*◌, ◌%◌, ◌<◌};
 ghost use Rattle.rules.specs.Chip.{total};
 ghost use Rattle.rules.specs.Lines.{pair_bytes};

@@ -11,14 +11,14 @@ use text_read::line::line_end;
 use text_read::part;
 
 // What is stated beside the flashes.
-#[derive(Drop)]
+#[derive(Clone, Copy)]
 pub struct Stated {
     pub chip: Chip,
     pub options: Options,
 }
 
 // The chip that the lines state, or the number of the first that states none.
-#[derive(Drop)]
+#[derive(Clone, Copy)]
 pub enum ChipFile {
     States(Stated),
     BadLine(usize),

@@ -10,7 +10,7 @@ use text_read::number::Number;
 use text_read::part::starts_with;
 use text_read::{chips, in_hand, number, part, rows};
 
-#[derive(Drop)]
+#[derive(Clone, Copy)]
 pub enum Line {
     Bad,
     OfChip(Chip),

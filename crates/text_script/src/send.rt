@@ -14,7 +14,7 @@ use text_read::{part, rows};
 use text_told::notes::put_note;
 
 // The chip while bytes are sent, and whether it has answered any of them.
-#[derive(Drop)]
+#[derive(Clone, Copy)]
 struct Sent {
     device: Device,
     answered: bool,

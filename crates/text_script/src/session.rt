@@ -16,7 +16,7 @@ use standin_state::resting::at_rest;
 use text_read::rows;
 
 // Its record, and whether its power is on. With the power off the record is Silent; its options are those stored.
-#[derive(Drop)]
+#[derive(Clone, Copy)]
 pub struct Session {
     pub on: bool,
     pub device: Device,
@@ -50,7 +50,7 @@ pub fn off(s: Session, o: Options) -> Session
 }
 
 // The session after a power-on, and what that answered.
-#[derive(Drop)]
+#[derive(Clone, Copy)]
 pub struct Powered {
     pub session: Session,
     pub call: Call,

@@ -1,4 +1,6 @@
 // The stand-in on a stream of bytes: what was read goes to it up to the first answer, and is written down with that answer.
+#![tactic(auto)]
+
 pub mod log;
 
 ghost use Rattle.std.specs.Prelude.{◌≡◌, ◌<◌, ◌≤◌, length};
@@ -11,7 +13,7 @@ use rules::Call;
 use standin::call::{Device, byte_call};
 
 // The chip after those bytes, what the last call answered, and how many bytes went to it.
-#[derive(Drop)]
+#[derive(Clone, Copy)]
 pub struct Served {
     pub device: Device,
     pub call: Call,

@@ -6,7 +6,7 @@ ghost use Rattle.text_session.specs.Session.{matches};
 use text_read::rows::{row_byte, row_count};
 
 // Whether all that was answered so far stands in the row, and how many bytes that is.
-#[derive(Drop)]
+#[derive(Clone, Copy)]
 pub struct Matching {
     pub right: bool,
     pub at: usize,

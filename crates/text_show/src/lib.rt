@@ -1,5 +1,7 @@
 // A sheet told to a person, in a lent buffer: its form and chip, a line for each step, the most frames that a play sends and a map of both flashes; or
 // the rule that refuses it.
+#![tactic(auto)]
+
 pub mod entries;
 pub mod map;
 pub mod refused;

@@ -1,5 +1,7 @@
 // The program: a HEX text from standard input, and the sheet made of it on standard output; or, where it is refused, one line on standard error. What
 // stands in either buffer that is written is promised by `make` and `put_refusal` for every input.
+#![tactic(auto)]
+
 ghost use Rattle.std.specs.Prelude.{◌≡◌, length};
 
 use rules::hex::HexMade;

@@ -2,8 +2,8 @@
 use mathlib.Core.Path.{sym}
 use Prim.Native.Nat.{ℕ}
 use lib.ListN.{length-replicate}
-use Rattle.hex.proofs.room.Statement.{statement}
-use Rattle.hex.proofs.room.Tie as tie
+use Rattle.hex_sheet.proofs.room.Statement.{statement}
+use Rattle.hex_sheet.proofs.room.Tie as tie
 
 returns : tie.Need-returns
 returns c = sym (length-replicate {0} {A = ℕ} 1048577 0)

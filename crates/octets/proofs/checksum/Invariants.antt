@@ -1,0 +1,11 @@
+-- `octets::checksum` meets its contract: with the bytes passed the sum comes to 0 modulo 65536. Assumes nothing.
+use Rattle.std.proofs.Common.{◌≡◌, ◌+◌, ◌-◌, ◌%◌, ◌<◌, ◌≤◌, length, take, refl, arith, take_all, rules}
+use Rattle.rules.specs.Chip.{total, checksum}
+use Rattle.rules.proofs.Bytes.{total_more}
+use Rattle.octets.proofs.checksum.Given as goal
+
+abbrev pub invariant-loop-k : goal.invariant-loop-k
+invariant-loop-k l = (l.k ≤ length l.s) × (l.sum < 65536) × ((l.sum + total (take l.k l.s)) % 65536 ≡ 0)
+
+abbrev pub decreases-loop-k : goal.decreases-loop-k
+decreases-loop-k l = length l.s - l.k

@@ -1,0 +1,11 @@
+-- `octets::same_bytes` meets its contract: what is left to compare decides. Assumes nothing.
+use Rattle.std.proofs.Common.{◌≡◌, ◌-◌, ◌≤◌, length, drop, sym, refl, ◌∙◌, arith}
+use Rattle.rules.specs.Chip.{same}
+use Rattle.octets.proofs.Lists.{same_lengths, same_not, same_more, same_end}
+use Rattle.octets.proofs.same_bytes.Given as goal
+
+abbrev pub invariant-loop-i : goal.invariant-loop-i
+invariant-loop-i l = (l.i ≤ length l.a) × (length l.a ≡ length l.b) × (same l.a l.b ≡ same (drop l.i l.a) (drop l.i l.b))
+
+abbrev pub decreases-loop-i : goal.decreases-loop-i
+decreases-loop-i l = length l.a - l.i

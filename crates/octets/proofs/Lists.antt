@@ -1,5 +1,5 @@
 -- Laws of bytes in a row: one byte more of `same`, `blank` and `total`. Assumes nothing.
-use Rattle.std.proofs.Common.{◌≡◌, ℕ, zero, suc, ◌+◌, ◌-◌, ◌<◌, ◌≤◌, Bool, true, false, cond, eqb, List, [], ◌∷◌, length, get_or, drop, replicate, refl, ap, add-one, drop_of_length-le, drop-cons, eq-eqb, ne_eqb}
+use Rattle.std.proofs.Common.{◌≡◌, ℕ, zero, suc, ◌+◌, ◌<◌, ◌≤◌, Bool, true, false, cond, eqb, List, [], ◌∷◌, length, get_or, drop, replicate, refl, ap, add-one, drop_of_length-le, drop-cons, eq-eqb, ne_eqb}
 use Rattle.rules.specs.Chip.{same, blank, blank_byte}
 
 -- ---- the same bytes ----

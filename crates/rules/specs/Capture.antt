@@ -13,7 +13,6 @@ use Rattle.rules.specs.Chip.{Memory, byte_at, same}
 use Rattle.rules.specs.StandIn.{State, Fed, rest, powered, feed, flash_verdict}
 use Rattle.rules.specs.Run.{all_bytes}
 use Rattle.rules.specs.Numbers.{refusal_number}
-use Rattle.rules.specs.Text.{ascii}
 use Rattle.rules.specs.Lines.{lines_of, is_row, row_bytes}
 
 -- ---- a line by itself ----

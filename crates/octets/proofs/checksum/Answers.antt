@@ -1,5 +1,5 @@
 -- `octets::checksum` meets its contract: with the bytes passed the sum comes to 0 modulo 65536. Assumes nothing.
-use Rattle.std.proofs.Common.{◌≡◌, ◌+◌, ◌-◌, ◌%◌, ◌<◌, ◌≤◌, length, take, refl, arith, take_all, rules}
+use Rattle.std.proofs.Common.{◌≡◌, take, refl, arith, take_all}
 use Rattle.rules.specs.Chip.{total, checksum}
 use Rattle.rules.proofs.Bytes.{total_more}
 use Rattle.octets.proofs.checksum.Goals as goal

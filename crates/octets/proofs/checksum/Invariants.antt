@@ -1,7 +1,6 @@
 -- `octets::checksum` meets its contract: with the bytes passed the sum comes to 0 modulo 65536. Assumes nothing.
-use Rattle.std.proofs.Common.{◌≡◌, ◌+◌, ◌-◌, ◌%◌, ◌<◌, ◌≤◌, length, take, refl, arith, take_all, rules}
-use Rattle.rules.specs.Chip.{total, checksum}
-use Rattle.rules.proofs.Bytes.{total_more}
+use Rattle.std.proofs.Common.{◌≡◌, ◌+◌, ◌-◌, ◌%◌, ◌<◌, ◌≤◌, length, take}
+use Rattle.rules.specs.Chip.{total}
 use Rattle.octets.proofs.checksum.Given as goal
 
 abbrev pub invariant-loop-k : goal.invariant-loop-k

@@ -1,5 +1,5 @@
 -- `octets::copy` meets its contract: the bytes passed are those of `src`. Assumes nothing.
-use Rattle.std.proofs.Common.{◌≡◌, ◌-◌, ◌<◌, ◌≤◌, length, take, sym, refl, ◌∙◌, add-one, arith, length-set, take_all, take-suc, take-suc-set}
+use Rattle.std.proofs.Common.{◌≡◌, ◌-◌, ◌≤◌, length, take}
 use Rattle.octets.proofs.copy.Given as goal
 
 abbrev pub invariant-loop-i : goal.invariant-loop-i

@@ -1,7 +1,5 @@
 -- `octets::fill` meets its contract: the bytes passed are `v`. Assumes nothing.
-use Rattle.std.proofs.Common.{◌≡◌, ◌-◌, ◌<◌, ◌≤◌, ◌++◌, length, drop, replicate, refl, ◌∙◌, append-nil, arith, length-set}
-use lib.Seq.{drop-length}
-use borrow.Author.Fill.{fill_more}
+use Rattle.std.proofs.Common.{◌≡◌, ◌-◌, ◌≤◌, ◌++◌, length, drop, replicate}
 use Rattle.octets.proofs.fill.Given as goal
 
 abbrev pub invariant-loop-at : goal.invariant-loop-at

@@ -1,6 +1,5 @@
 -- `octets::is_blank` meets its contract: what is left to look at decides. Assumes nothing.
-use Rattle.std.proofs.Common.{◌≡◌, ◌-◌, ◌≤◌, length, drop, sym, refl, ◌∙◌, arith}
-use Rattle.rules.specs.Chip.{blank}
+use Rattle.std.proofs.Common.{sym, ◌∙◌, arith}
 use Rattle.octets.proofs.Lists.{blank_not, blank_more, blank_end}
 use Rattle.octets.proofs.is_blank.Goals as goal
 

@@ -1,7 +1,6 @@
 -- `octets::is_blank` meets its contract: what is left to look at decides. Assumes nothing.
-use Rattle.std.proofs.Common.{◌≡◌, ◌-◌, ◌≤◌, length, drop, sym, refl, ◌∙◌, arith}
+use Rattle.std.proofs.Common.{◌≡◌, ◌-◌, ◌≤◌, length, drop}
 use Rattle.rules.specs.Chip.{blank}
-use Rattle.octets.proofs.Lists.{blank_not, blank_more, blank_end}
 use Rattle.octets.proofs.is_blank.Given as goal
 
 abbrev pub invariant-loop-i : goal.invariant-loop-i

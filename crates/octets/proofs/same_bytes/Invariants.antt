@@ -1,7 +1,6 @@
 -- `octets::same_bytes` meets its contract: what is left to compare decides. Assumes nothing.
-use Rattle.std.proofs.Common.{◌≡◌, ◌-◌, ◌≤◌, length, drop, sym, refl, ◌∙◌, arith}
+use Rattle.std.proofs.Common.{◌≡◌, ◌-◌, ◌≤◌, length, drop}
 use Rattle.rules.specs.Chip.{same}
-use Rattle.octets.proofs.Lists.{same_lengths, same_not, same_more, same_end}
 use Rattle.octets.proofs.same_bytes.Given as goal
 
 abbrev pub invariant-loop-i : goal.invariant-loop-i

@@ -47,6 +47,7 @@ fn task_in(chip: Chip, task: Task) -> Task
 }
 
 // The command begun, which there is only in phase Command.
+#[tactic(auto, unfolding(rules::specs::StandIn::task_now))]
 pub fn task_now(chip: Chip, phase: Phase, task: Task) -> Task
     ensures { result ≡ task_now chip phase task }
 {

@@ -46,7 +46,7 @@ unfolding after_any
 over_stays chip p [] h = h
 over_stays chip p (g ∷ gs) h =
     let e = over_rests chip g.sheet p g.reply g.frame g.sums h in
-    over_stays chip _ gs (rw e h)
+    over_stays chip (called chip g.sheet p g.reply g.frame g.sums).player gs (rw e h)
 
 -- a player that is high enough for the calls that are not refused
 climbs : (chip : Chip) (p : Player) (gs : List Given) → 0 < taken chip p gs → most_rank chip ≤ rank chip p + taken chip p gs

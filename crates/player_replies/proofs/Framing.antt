@@ -1,6 +1,6 @@
 -- Whether a reply is one data frame of so many bytes, and how replies are judged: one law for each outcome; and the fixed frames, which are
 -- judged alike whether they are compared or decoded. Assumes nothing.
-use mathlib.Core.Path.{◌≡◌, refl, sym, ap, ◌∙◌}
+use mathlib.Core.Path.{◌≡◌, refl}
 use mathlib.Core.Bool.{Bool, true, false, cond, ◌&&◌}
 use mathlib.Core.List.{List, [], ◌∷◌}
 use Prim.Native.Nat.{ℕ, ◌+◌, ◌%◌, ◌<◌, ◌≤◌}

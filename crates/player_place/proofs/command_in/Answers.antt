@@ -1,0 +1,27 @@
+-- `player_place::command_in` meets its contract, kind by kind. Assumes nothing.
+use Rattle.rules.specs.Player.{command_in}
+use Rattle.player_place.proofs.command_in.Goals as goal
+
+pub returns-in-Erase : goal.returns-in-Erase
+unfolding command_in
+returns-in-Erase c = rw (c.step_blocks.ensures.0, c.in-Erase.is)
+
+pub returns-in-Write : goal.returns-in-Write
+unfolding command_in
+returns-in-Write c = rw c.in-Write.is
+
+pub returns-in-Verify : goal.returns-in-Verify
+unfolding command_in
+returns-in-Verify c = rw c.in-Verify.is
+
+pub returns-in-Sum : goal.returns-in-Sum
+unfolding command_in
+returns-in-Sum c = rw c.in-Sum.is
+
+pub returns-in-Blank : goal.returns-in-Blank
+unfolding command_in
+returns-in-Blank c = rw c.in-Blank.is
+
+pub returns-in-Lock : goal.returns-in-Lock
+unfolding command_in
+returns-in-Lock c = rw c.in-Lock.is

@@ -1,18 +1,18 @@
 -- Laws of bytes stored in a buffer, and of the sheet in hand. Assumes nothing.
-use mathlib.Core.Path.{◌≡◌, refl, sym, ap, ◌∙◌}
+use mathlib.Core.Path.{◌≡◌}
 use mathlib.Core.Bool.{true, false}
-use mathlib.Core.List.{List, ◌++◌}
-use Prim.Native.Nat.{ℕ, suc, ◌+◌, ◌<◌, ◌≤◌}
+use mathlib.Core.List.{List}
+use Prim.Native.Nat.{ℕ, ◌+◌, ◌<◌, ◌≤◌}
 use native.Mathlib.Numerals.{add-one}
 use native.Mathlib.Omega.{arith}
-use lib.ListN.{length, get_or, set, take, drop}
+use lib.ListN.{length, get_or, set, drop}
 use lib.Seq.{paste, paste-suc, take-length}
 use borrow.Author.Tests.{le-leb, lt-leb}
 use Rattle.rules.specs.Text.{ascii}
 use Rattle.rules.specs.Lines.{starts_with, row_bytes}
 use Rattle.text_read.specs.declared.in_hand.InHand.{InHand}
 use Rattle.text_read.specs.Bytes.{stored}
-use Rattle.text_read.specs.Sheets.{Held, grown, beginning, after_line}
+use Rattle.text_read.specs.Sheets.{grown, beginning, after_line}
 
 module _ (at : ℕ) (bs b : List ℕ) where
   pub no_room : length b < at + length bs → stored at bs b ≡ record { end = at; bytes = b }

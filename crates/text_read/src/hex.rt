@@ -3,6 +3,7 @@ ghost use Rattle.std.specs.Prelude.{◌≡◌, drop};
 ghost use Rattle.rules.specs.Lines.{digit, two_digits, pair, spaced_pair};
 
 // The value of a digit; 16 for another byte.
+#[tactic(auto, unfolding(rules::specs::Lines::digit))]
 pub fn digit(b: u8) -> u8
     ensures { result ≡ digit b }
 {

@@ -1,12 +1,12 @@
 -- Laws of the blocks named and of the sheet made of them. Assumes nothing.
 use mathlib.Core.Path.{◌≡◌, refl, sym, ap, ◌∙◌}
 use mathlib.Core.Bool.{Bool, true, false, cond}
-use mathlib.Core.List.{List, [], ◌∷◌, ◌++◌, append_assoc, append-nil}
+use mathlib.Core.List.{List, [], ◌∷◌, ◌++◌, append_assoc}
 use Prim.Native.Nat.{ℕ, zero, suc, ◌+◌, ◌-◌, ◌*◌, ◌<◌, ◌≤◌}
 use native.Mathlib.Nat.{zero-mul, suc-mul}
 use native.Mathlib.Omega.{arith}
 use native.Mathlib.Numerals.{add-one}
-use lib.ListN.{length, get_or, take, drop, length-append, drop_of_length-le}
+use lib.ListN.{length, get_or, drop, length-append, drop_of_length-le}
 use lib.Seq.{drop-cons}
 use borrow.Author.Tests.{lt-ltb, le-ltb}
 use Rattle.rules.specs.declared.Flash.{Flash}
@@ -18,10 +18,10 @@ use Rattle.rules.specs.declared.hex.HexMade.TheVariants.{Sheet, Refused}
 use Rattle.rules.specs.First.{first}
 use Rattle.rules.specs.Chip.{Memory, small, blocks, block_size, flash_of, word_bytes, over}
 use Rattle.rules.specs.Sheet.{most_steps, entry_size}
-use Rattle.rules.specs.Hex.{no_cells, any_given, reading, hex_read, Named, named, block_cells, named_from, blocks_named, cell_byte, cell_bytes, body_of, entry_of, entries_of, bodies_of, steps_of, sheet_of, sheet_made, Making, making_of, made_of, hex_made}
+use Rattle.rules.specs.Hex.{no_cells, any_given, reading, hex_read, Named, named, block_cells, named_from, blocks_named, cell_byte, cell_bytes, body_of, entry_of, entries_of, bodies_of, steps_of, sheet_of, sheet_made, making_of, made_of, hex_made}
 use Rattle.chip_finder.specs.LentFlashes.{memory}
 use Rattle.chip_finder.proofs.Parts.{inside, length_part}
-use Rattle.text_out.specs.Out.{Out, out, add}
+use Rattle.text_out.specs.Out.{Out, add}
 use Rattle.text_out.proofs.Appended.{add_append, add_none}
 
 module _ (m : Memory) (f : Flash) (i : ℕ) where

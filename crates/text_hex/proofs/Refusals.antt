@@ -1,12 +1,12 @@
 -- A refusal told in a buffer, by its case; and that it has room. Assumes nothing.
-use mathlib.Core.Path.{◌≡◌, refl, ap, sym, ◌∙◌}
+use mathlib.Core.Path.{◌≡◌, ap, sym, ◌∙◌}
 use mathlib.Core.List.{List}
-use Prim.Native.Nat.{ℕ, ◌+◌, ◌≤◌}
+use Prim.Native.Nat.{ℕ, ◌≤◌}
 use native.Mathlib.Omega.{arith}
 use lib.ListN.{length, length-append}
 use Rattle.rules.specs.declared.hex.HexRefusal.{HexRefusal}
 use Rattle.rules.specs.declared.hex.HexRefusal.TheVariants.{BadForm, WrongSum, OtherType, Outside, Twice, AfterEnd, NoEnd, ManySteps, ManyBytes, ShortBuffer}
-use Rattle.rules.specs.Text.{ascii, decimal, digits}
+use Rattle.rules.specs.Text.{decimal, digits}
 use Rattle.rules.specs.Hex.{hex_line}
 use Rattle.text_out.specs.Out.{out, add, Filled}
 use Rattle.text_out.proofs.Appended.{filled}

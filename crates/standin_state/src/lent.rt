@@ -36,6 +36,7 @@ pub fn flash_verdict(chip: Chip, code: usize, data: usize) -> Verdict
 }
 
 // The same, then D3 by the length of the reply buffer.
+#[tactic(auto, using(crate::proofs::Lending::no_room, crate::proofs::Lending::all_lent))]
 pub fn lent_verdict(chip: Chip, code: usize, data: usize, reply: usize) -> Verdict
     ensures { result ≡ lent_verdict chip code «data» reply }
 {

@@ -1,5 +1,5 @@
 -- An entry over two rows of marks. Assumes nothing.
-use Rattle.std.specs.Prelude.{ℕ, Bool, false, cond, ltb}
+use Rattle.std.specs.Prelude.{false, cond, ltb}
 use Rattle.rules.specs.Chip.{Memory}
 use Rattle.chip_finder.specs.Held.{blocks_held}
 use Rattle.sheet_marks.specs.Taken.{Taken, step_taken}

@@ -1,8 +1,7 @@
 -- Laws of a line heard: a byte that is not refused, one byte more of a row, and a line by its sign. Assumes nothing.
 use mathlib.Core.Path.{◌≡◌, refl, sym, ap, ◌∙◌}
-use mathlib.Core.Bool.{true, false, cond}
 use mathlib.Core.List.{List, [], ◌∷◌, ◌++◌}
-use Prim.Native.Nat.{ℕ, suc, ◌+◌, ◌-◌, ◌<◌, ◌≤◌}
+use Prim.Native.Nat.{ℕ, ◌+◌, ◌-◌, ◌<◌, ◌≤◌}
 use native.Mathlib.Numerals.{add-one}
 use native.Mathlib.Omega.{arith}
 use lib.ListN.{length, get_or, take, drop, length-append, drop_of_length-le}
@@ -14,7 +13,7 @@ use Rattle.rules.specs.declared.Call.TheVariants.{Refused, Answer}
 use Rattle.rules.specs.declared.Note.{Note}
 use Rattle.rules.specs.declared.Refusal.{Refusal}
 use Rattle.rules.specs.declared.Verdict.TheVariants as v
-use Rattle.rules.specs.Chip.{byte_at, same, over}
+use Rattle.rules.specs.Chip.{byte_at, over}
 use Rattle.rules.specs.Lines.{between, row_bytes}
 use Rattle.rules.specs.Run.{all_bytes}
 use Rattle.rules.specs.StandIn.{State, Outcome, powered, step, feed, lent_verdict, byte_call, answered}

@@ -1,8 +1,8 @@
 -- The whole-frame engine is the byte engine fed with that frame, and E1 is due exactly where the frame is not awaited. Assumes nothing.
 use mathlib.Core.Path.{◌≡◌, refl, sym, ap, subst, ◌∙◌}
 use mathlib.Core.Bool.{Bool, true, false, cond, not, ◌&&◌}
-use mathlib.Core.List.{List, [], ◌∷◌, ◌++◌}
-use Prim.Native.Nat.{ℕ, zero, suc, ◌≤◌}
+use mathlib.Core.List.{List, [], ◌∷◌}
+use Prim.Native.Nat.{ℕ, ◌≤◌}
 use native.Mathlib.Omega.{arith}
 use lib.Dec.{eqb, ltb}
 use lib.ListN.{length}
@@ -20,7 +20,7 @@ use Rattle.rules.specs.Chip.{byte_at, known, flash_size}
 use Rattle.rules.specs.Frame.{whole}
 use Rattle.rules.specs.Command.{phase_number}
 use Rattle.rules.specs.Numbers.{call_number, verdict_number}
-use Rattle.rules.specs.StandIn.{State, Out, Outcome, rest, holding, listening, start_of, task_now, on_frame, outs, Fed, feed, reply_room, flash_verdict, lent_verdict}
+use Rattle.rules.specs.StandIn.{State, Out, Outcome, rest, holding, listening, start_of, task_now, on_frame, outs, Fed, reply_room, flash_verdict, lent_verdict}
 use Rattle.rules.specs.WholeFrame.{awaited, frame_call}
 use Rattle.rules.proofs.Choices.{both}
 use Rattle.standin_state.proofs.Lending.{lent_fits}
@@ -28,7 +28,7 @@ use Rattle.standin_engine.specs.View.{call_outcome}
 use Rattle.standin_engine.proofs.Receives.{takes_frames}
 use Rattle.standin.specs.Feeding.{feeding}
 use Rattle.standin.proofs.Whole.{by_frame, feed_frame, fed_frame}
-use Rattle.standin_frames.specs.Alike.{Lent, Awaited, OnlyLast, AsBytes, FramesAsBytes, OnlyE1, E1Exactly, FromPowerOn, reached}
+use Rattle.standin_frames.specs.Alike.{Lent, Awaited, OnlyLast, AsBytes, FramesAsBytes, E1Exactly, FromPowerOn, reached}
 use Rattle.standin_frames.proofs.Frames.{whole_size, not_lent, not_awaited_lem, handed_on}
 
 -- ---- what is awaited, as a test and as it is said ----

@@ -1,5 +1,1 @@
-pub mod EntryWalk
-pub mod LendingWalk
-pub mod Machine
 pub mod Outcomes
-pub mod Walked

@@ -5,7 +5,7 @@ use Prim.Native.Nat.{ℕ, ◌+◌, ◌*◌, ◌≤◌}
 use native.Mathlib.Omega.{arith}
 use lib.ListN.{length, length-append}
 use Rattle.rules.specs.Capture.{sent_sign, given_sign}
-use Rattle.text_out.specs.Out.{Out, out, add}
+use Rattle.text_out.specs.Out.{Out, add}
 use Rattle.text_out.proofs.Appended.{add_append, add_none}
 use Rattle.text_lines.specs.Rows.{row_text}
 use Rattle.text_serve.specs.Log.{line_told, answer_told, turn_told}

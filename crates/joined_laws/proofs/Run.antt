@@ -78,7 +78,7 @@ module _ (chip : Chip) (s : List ℕ) where
     pub ran : step_run clean chip s c j ≡ ran true end
     pub ends : StepEnds chip s i n j.sums (leaves_at i j) end
     pub some : 0 < calls - (done_at i j).frames
-    pub goes_on_lem : run_from clean chip s c calls j ≡ run_from clean chip s (c + (done_at i j).frames) (calls - (done_at i j).frames) end
+    pub goes_on : run_from clean chip s c calls j ≡ run_from clean chip s (c + (done_at i j).frames) (calls - (done_at i j).frames) end
     pub stands : (((done_at i j).status ≡ 0x06 → ⊥) × (end.player.stage ≡ Over))
         ⊎ (((done_at i j).status ≡ 0x06) × Before (i + 1) (n + (done_at i j).frames) left (calls - (done_at i j).frames) end)
 
@@ -169,7 +169,7 @@ module _ (chip : Chip) (s : List ℕ) where
           ran = ap (step_run clean chip s c) there_is ∙ now.ran;
           ends = ends;
           some = omega (arith, enough_after);
-          goes_on_lem = goes_on_lem;
+          goes_on = goes_on_lem;
           stands = go (eqb d.status 0x06) refl;
         }
       where

@@ -1,28 +1,12 @@
 -- Laws of a line by itself: one for each outcome; and how long a record of bytes is. Assumes nothing.
-use Rattle.std.proofs.Common.{◌≡◌, ℕ, ◌+◌, ◌-◌, ◌%◌, ◌<◌, ◌≤◌, min, Bool, true, false, cond, not, eqb, leb, List, [], ◌∷◌, length, get_or, take, drop, sym, refl, ap, ◌∙◌, arith, length-drop, length-take, get_or-drop, get_or-take, eq-eqb, ne_eqb, eqb-true}
+use Rattle.std.proofs.Common.{◌≡◌, ℕ, ◌+◌, ◌%◌, ◌<◌, Bool, true, false, cond, not, eqb, leb, List, length, get_or, drop, sym, refl, ap, ◌∙◌, arith, length-drop, length-take, get_or-drop, get_or-take, eq-eqb, ne_eqb, eqb-true}
 use Rattle.rules.specs.declared.hex.HexLine.{HexLine}
 use Rattle.rules.specs.declared.hex.HexLine.TheVariants.{Bytes, End, Upper, BadForm, WrongSum, OtherType}
 use Rattle.rules.specs.First.{first}
 use Rattle.rules.specs.Chip.{byte_at, total}
 use Rattle.rules.specs.Lines.{is_pairs, pair_bytes}
-use Rattle.rules.specs.Hex.{without_cr, length_of, offset_of, type_of, data_of, type_form, typed, record_kind, line_kind}
+use Rattle.rules.specs.Hex.{length_of, offset_of, type_of, data_of, type_form, typed, record_kind, line_kind}
 use Rattle.rules.proofs.Choices.{picked}
-
--- ---- one CR ----
-
-pub no_line : (l : List ℕ) → length l ≡ 0 → l ≡ without_cr l
-unfolding without_cr
-no_line [] h = refl
-no_line (b ∷ l) h = absurd (omega arith)
-
-module _ (l : List ℕ) where
-  pub one_cr : (n : ℕ) → n ≡ length l - 1 → get_or l (length l - 1) 0 ≡ 0x0D → without_cr l ≡ take n l
-  unfolding without_cr
-  one_cr n f e = rw f (simp (eq-eqb _ _ e))
-
-  pub no_cr : (get_or l (length l - 1) 0 ≡ 0x0D → ⊥) → without_cr l ≡ l
-  unfolding without_cr
-  no_cr n = simp (ne_eqb _ _ n)
 
 -- ---- the types ----
 

@@ -12,6 +12,7 @@ use text_read::part;
 use text_read::rows::{is_pairs, pairs_byte, pairs_count};
 
 // A line without one CR at its end.
+#[tactic(auto, unfolding(rules::specs::Hex::without_cr))]
 pub fn without_cr<'a>(line: &'a [u8]) -> &'a [u8]
     ensures { result.now ≡ without_cr line.now }
 {

@@ -1,0 +1,17 @@
+-- `text_show::map::block_mark` meets its contract: after the steps that were gone through. Assumes nothing.
+use mathlib.Core.Path.{◌≡◌, refl, sym, ap, ◌∙◌}
+use Prim.Native.Nat.{◌-◌, ◌<◌, ◌≤◌}
+use native.Mathlib.Omega.{arith}
+use Rattle.rules.specs.declared.Step.{Step}
+use Rattle.rules.specs.Sheet.{count}
+use Rattle.text_show.specs.Map.{mark_by, mark_after}
+use Rattle.text_show.proofs.Marks.{one_more_step}
+use borrow.Author.Rules.{rules}
+use Rattle.text_show.proofs.map.block_mark.Given as goal
+
+abbrev pub invariant-loop-i : goal.invariant-loop-i
+invariant-loop-i l =
+    (l.i ≤ l.i-end) × (l.i-end < 65536) × (l.i-end ≡ count l.sheet) × (l.c ≡ mark_after l.chip l.sheet l.f l.b l.i)
+
+abbrev pub decreases-loop-i : goal.decreases-loop-i
+decreases-loop-i l = l.i-end - l.i

@@ -1,0 +1,33 @@
+-- `text_show::refused::first_to_break` meets its contract: the first is among those that are left. Assumes nothing.
+use mathlib.Core.Path.{◌≡◌, sym, ap, ◌∙◌}
+use Prim.Native.Nat.{◌-◌, ◌<◌, ◌≤◌}
+use native.Mathlib.Omega.{arith}
+use Rattle.rules.specs.Sheet.{count}
+use Rattle.text_show.specs.Refused.{first_to_break}
+use Rattle.text_show.proofs.Breaking.{this_breaks, later_breaks, none_breaks}
+use borrow.Author.Rules.{rules}
+use Rattle.text_show.proofs.refused.first_to_break.Goals as goal
+
+pub returns-then-breaks : goal.returns-then-breaks
+returns-then-breaks c =
+    let l = c.loop-i in
+    let a = c.args in
+    let h : l.i < c.count-n.result = omega arith in
+    sym (l.invariant.2 ∙ this_breaks a.refusal a.sheet.now l.i c.count-n.result h (sym c.breaks.ensures ∙ c.if-breaks.true))
+
+-- ?? add-i : tie.Need-overflow-add-i invariant-loop decreases-loop
+-- ?? add-i c = omega arith
+-- ?? 
+
+pub loop-i-preserved : goal.loop-i-preserved
+loop-i-preserved c =
+    let l = c.loop-i in
+    let a = c.args in
+    let h : l.i < c.count-n.result = omega arith in
+    (omega arith, l.invariant.1, l.invariant.2 ∙ later_breaks a.refusal a.sheet.now l.i c.count-n.result h (sym c.breaks.ensures ∙ c.if-breaks.false))
+
+pub returns : goal.returns
+returns c =
+    let l = c.loop-i in
+    let a = c.args in
+    sym (l.invariant.2 ∙ none_breaks a.refusal a.sheet.now l.i c.count-n.result (omega arith))

@@ -1,5 +1,5 @@
 -- Laws of the lines of a HEX text one after the other, with the end that `line_end` finds. Assumes nothing.
-use mathlib.Core.Path.{◌≡◌, refl, sym, ap, ◌∙◌}
+use mathlib.Core.Path.{◌≡◌, refl, ◌∙◌}
 use mathlib.Core.Bool.{Bool, true, false, cond}
 use mathlib.Core.List.{List, [], ◌∷◌}
 use Prim.Native.Nat.{ℕ, ◌+◌, ◌-◌, ◌<◌, ◌≤◌}
@@ -11,8 +11,8 @@ use Rattle.rules.specs.declared.hex.HexRead.TheVariants.{On, Ended, Refused}
 use Rattle.rules.specs.declared.hex.HexRefusal.{HexRefusal}
 use Rattle.rules.specs.declared.hex.HexRefusal.TheVariants.{BadForm, AfterEnd}
 use Rattle.rules.specs.Chip.{Memory}
-use Rattle.rules.specs.Lines.{Lines, line, onto, lines_of, first_line}
-use Rattle.rules.specs.Hex.{Taken, taken, line_taken, Reading, reading, after_end, goes_on, read_lines}
+use Rattle.rules.specs.Lines.{line, onto, lines_of, first_line}
+use Rattle.rules.specs.Hex.{taken, line_taken, Reading, reading, after_end, goes_on, read_lines}
 use Rattle.text_read.proofs.Lines.{next_line, last_line}
 
 -- what comes of the lines from `at` on

@@ -11,6 +11,7 @@ use text_read::rows::pairs_byte;
 pub const NOT_GIVEN: u16 = 256;
 
 // Whether some of these cells are given.
+#[tactic(auto, using(crate::proofs::Given::given_here, crate::proofs::Given::given_later, crate::proofs::Given::none_given))]
 pub fn any_given(cells: &[u16]) -> bool
     ensures { result ≡ any_given cells.now }
 {

@@ -1,9 +1,9 @@
 -- Whether a reply is one data frame of so many bytes, and how replies are judged: one law for each outcome; and the fixed frames, which are
 -- judged alike whether they are compared or decoded. Assumes nothing.
-use mathlib.Core.Path.{◌≡◌, refl}
+use mathlib.Core.Path.{◌≡◌, refl, sym}
 use mathlib.Core.Bool.{Bool, true, false, cond, ◌&&◌}
 use mathlib.Core.List.{List, [], ◌∷◌}
-use Prim.Native.Nat.{ℕ, ◌+◌, ◌%◌, ◌<◌, ◌≤◌}
+use Prim.Native.Nat.{ℕ, ◌+◌, ◌-◌, ◌%◌, ◌<◌, ◌≤◌}
 use native.Mathlib.Omega.{arith}
 use lib.Dec.{eqb}
 use lib.ListN.{length, take, drop, length-take}
@@ -16,6 +16,7 @@ use Rattle.rules.specs.Sheet.{clears}
 use Rattle.rules.specs.Player.{well, framed, command_reply, sum_reply, no_reply, lock_reply, data_reply}
 use Rattle.rules.proofs.Choices.{and_false}
 use Rattle.rules.proofs.Bytes.{same_equal}
+use Rattle.frame_build.proofs.Buffers.{rest_of}
 
 -- ---- the tests, one after the other ----
 
@@ -152,3 +153,11 @@ module _ (r : List ℕ) where
       pub sum_bad : framed 2 (drop 5 r) ≡ false → sum_reply r ≡ L1
       unfolding sum_reply
       sum_bad f = rw (first_frame r l h, e, f)
+
+-- the same, of a rest that is given by its length
+module _ (r : List ℕ) (l : 5 ≤ length r) (h : byte_at r 3 < 256) (e : same (take 5 r) ACK ≡ true) where
+  pub rest_told : framed 2 (take (length r - 5) (drop 5 r)) ≡ true → sum_reply r ≡ well
+  rest_told f = sum_told_lem r l h e (rw (sym (rest_of 5 r)) f)
+
+  pub rest_bad : framed 2 (take (length r - 5) (drop 5 r)) ≡ false → sum_reply r ≡ L1
+  rest_bad f = sum_bad r l h e (rw (sym (rest_of 5 r)) f)

@@ -66,6 +66,7 @@ pub fn command_reply(r: &[u8]) -> Status
 }
 
 // The reply to a sum: the ACK, and a frame of two bytes behind it; or one frame that tells why not.
+#[tactic(auto, using(crate::proofs::Framing::sum_short, crate::proofs::Framing::sum_refused, crate::proofs::Framing::rest_told, crate::proofs::Framing::rest_bad))]
 pub fn sum_reply(r: &[u8]) -> Status
     ensures { result ≡ sum_reply r.now }
 {

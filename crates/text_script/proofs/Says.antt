@@ -1,5 +1,5 @@
 -- Laws of what a line says, an outcome each, and of bytes stored in a flash. Assumes nothing.
-use mathlib.Core.Path.{◌≡◌, refl, ap, ◌∙◌}
+use mathlib.Core.Path.{◌≡◌}
 use mathlib.Core.Bool.{true, false}
 use mathlib.Core.List.{List}
 use Prim.Native.Nat.{ℕ, ◌+◌, ◌-◌, ◌<◌, ◌≤◌}
@@ -7,11 +7,10 @@ use lib.ListN.{length, get_or, drop}
 use borrow.Author.Tests.{eq-eqb, ne_eqb, lt-ltb, le-ltb}
 use Rattle.rules.specs.declared.Flash.{Flash}
 use Rattle.rules.specs.declared.Flash.TheVariants.{Code, Data}
-use Rattle.rules.specs.Chip.{Memory, small, same, block, first_byte}
+use Rattle.rules.specs.Chip.{small, same, block, first_byte}
 use Rattle.rules.specs.Text.{ascii}
 use Rattle.rules.specs.Lines.{between, starts_with, is_row, row_bytes}
 use Rattle.chip_finder.specs.LentFlashes.{memory}
-use Rattle.text_read.specs.declared.number.Number.{Number}
 use Rattle.text_read.specs.declared.number.Number.TheVariants as number
 use Rattle.text_read.specs.Bytes.{is_bytes, Stored, stored}
 use Rattle.text_read.specs.Numerals.{hex_of}

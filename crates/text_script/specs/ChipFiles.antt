@@ -3,7 +3,6 @@ use Rattle.std.specs.Prelude.{ℕ, ◌+◌, Bool, true, false, cond, List, [], �
 use Rattle.rules.specs.declared.Chip.{Chip}
 use Rattle.rules.specs.declared.Flash.{Flash}
 use Rattle.rules.specs.declared.Flash.TheVariants.{Code, Data}
-use Rattle.rules.specs.declared.Options.{Options}
 use Rattle.rules.specs.Chip.{Memory, small, known, flash_size, blank_byte}
 use Rattle.rules.specs.Lines.{lines_of, row_bytes}
 use Rattle.rules.specs.Options.{fresh_options}

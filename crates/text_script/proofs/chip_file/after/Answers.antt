@@ -8,7 +8,6 @@ use Rattle.chip_finder.specs.LentFlashes.{memory}
 use Rattle.text_script.specs.Chips.{stored_in}
 use Rattle.text_script.specs.ChipFiles.{stating, stated_by}
 use Rattle.text_script.proofs.FileLines.{stated_as}
-use borrow.Author.Rules.{rules}
 use Rattle.text_script.proofs.chip_file.after.Goals as goal
 
 pub returns-in-Bad : goal.returns-in-Bad

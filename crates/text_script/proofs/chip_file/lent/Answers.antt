@@ -2,12 +2,8 @@
 use mathlib.Core.Path.{◌≡◌, sym, ◌∙◌}
 use Prim.Native.Nat.{◌*◌}
 use native.Mathlib.Omega.{arith}
-use borrow.Author.Tests.{not-true, not-false}
 use Rattle.rules.specs.Chip.{flash_size}
-use Rattle.chip_finder.proofs.Geometry.{size_bounds}
-use Rattle.chip_finder.proofs.Places.{small_product}
 use Rattle.text_script.proofs.FileLines.{lent_none, lent_short, lent_whole}
-use borrow.Author.Rules.{rules}
 use Rattle.text_script.proofs.chip_file.lent.Goals as goal
 
 pub returns-then-not-is_known : goal.returns-then-not-is_known
@@ -15,7 +11,7 @@ returns-then-not-is_known c = (sym (lent_none _ _ _ (sym c.is_known.ensures ∙ 
 
 -- ?? mul-size : tie.Need-overflow-mul-size
 -- ?? mul-size c = omega (arith, small_product c.block_size.result c.before.block-count.result (omega (arith, size_bounds c.before.before.before.before.args.f)) (omega arith))
--- ?? 
+-- ??
 
 pub returns-then-size-room : goal.returns-then-size-room
 returns-then-size-room c =

@@ -1,14 +1,12 @@
 -- `text_script::chip_file::read` meets its contract: the lines from `at` on decide. Assumes nothing.
-use mathlib.Core.Path.{◌≡◌, refl, sym, ap, ◌∙◌}
-use Prim.Native.Nat.{◌+◌, ◌-◌, ◌≤◌}
+use mathlib.Core.Path.{sym, ap, ◌∙◌}
+use Prim.Native.Nat.{◌+◌, ◌-◌}
 use native.Mathlib.Omega.{arith}
-use lib.ListN.{length, take, drop}
-use borrow.Author.Tests.{not-true, not-false}
+use lib.ListN.{take, drop}
 use Rattle.rules.specs.declared.Chip.{Chip}
-use Rattle.rules.specs.Lines.{lines_of}
 use Rattle.chip_finder.specs.LentFlashes.{memory}
 use Rattle.text_script.specs.declared.script_line.Line.{Line}
-use Rattle.text_script.specs.ChipFiles.{Stating, stating, fresh_in, is_stating, stated_by, lines_state}
+use Rattle.text_script.specs.ChipFiles.{Stating, stating, fresh_in, is_stating, stated_by}
 use Rattle.text_script.proofs.FileLines.{onward, from_fresh, said_as, file_end, file_unended, file_bad, file_more}
 use borrow.Author.Rules.{rules}
 use Rattle.text_script.proofs.chip_file.read.Goals as goal
@@ -32,7 +30,7 @@ returns-then-not-states c =
 -- ??     let e = c.before.before.before.before.before.before.before.before.before.before.before.before.before in
 -- ??     let l = e.before.before.before.loop in
 -- ??     record { fits = omega (arith, e.if1.false, l.invariant.0) }
--- ?? 
+-- ??
 
 pub loop-at-preserved : goal.loop-at-preserved
 loop-at-preserved c =

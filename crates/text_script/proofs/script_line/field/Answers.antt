@@ -6,7 +6,6 @@ use native.Mathlib.Omega.{arith}
 use Rattle.rules.specs.Lines.{between}
 use Rattle.text_read.specs.Numerals.{hex_of}
 use Rattle.text_script.proofs.Says.{field_past, field_no, field_some}
-use borrow.Author.Rules.{rules}
 use Rattle.text_script.proofs.script_line.field.Goals as goal
 
 pub returns-then-space-text : goal.returns-then-space-text

@@ -1,7 +1,6 @@
 -- `text_script::script_line::handed` meets its contract. Assumes nothing.
 use mathlib.Core.Path.{sym, ◌∙◌}
 use Rattle.text_script.proofs.Says.{handed_yes, handed_no}
-use borrow.Author.Rules.{rules}
 use Rattle.text_script.proofs.script_line.handed.Goals as goal
 
 pub returns-then-is_row : goal.returns-then-is_row

@@ -1,7 +1,6 @@
 -- `text_script::script_line::options_line` meets its contract. Assumes nothing.
 use mathlib.Core.Path.{sym, ◌∙◌}
 use Rattle.text_script.proofs.Says.{options_other, options_four}
-use borrow.Author.Rules.{rules}
 use Rattle.text_script.proofs.script_line.options_line.Goals as goal
 
 pub returns-then-text-ne23 : goal.returns-then-text-ne23

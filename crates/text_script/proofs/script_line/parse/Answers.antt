@@ -1,7 +1,6 @@
 -- `text_script::script_line::parse` meets its contract: each beginning is asked as the definition asks it. Assumes nothing.
 use mathlib.Core.Path.{sym, ◌∙◌}
 use Rattle.text_script.proofs.Says.{says_sent, says_sheet, says_options, says_code, says_data, says_word}
-use borrow.Author.Rules.{rules}
 use Rattle.text_script.proofs.script_line.parse.Goals as goal
 
 pub returns-then-starts_with : goal.returns-then-starts_with

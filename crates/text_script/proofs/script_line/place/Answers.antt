@@ -1,9 +1,8 @@
 -- `text_script::script_line::place` meets its contract. Assumes nothing.
-use mathlib.Core.Path.{◌≡◌, sym, ap}
+use mathlib.Core.Path.{sym, ap}
 use native.Mathlib.Omega.{arith}
 use Rattle.rules.specs.declared.Address.{Address}
 use Rattle.text_script.proofs.Says.{below, outside, inside}
-use borrow.Author.Rules.{rules}
 use Rattle.text_script.proofs.script_line.place.Goals as goal
 
 pub returns-then-address-first : goal.returns-then-address-first

@@ -1,7 +1,6 @@
 -- `text_script::script_line::sent` meets its contract. Assumes nothing.
 use mathlib.Core.Path.{sym, ◌∙◌}
 use Rattle.text_script.proofs.Says.{row_yes, row_no}
-use borrow.Author.Rules.{rules}
 use Rattle.text_script.proofs.script_line.sent.Goals as goal
 
 pub returns-then-is_bytes : goal.returns-then-is_bytes

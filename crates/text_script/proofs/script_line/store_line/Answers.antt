@@ -1,10 +1,8 @@
 -- `text_script::script_line::store_line` meets its contract. Assumes nothing.
 use mathlib.Core.Path.{sym, ap, ◌∙◌}
 use Prim.Native.Nat.{ℕ}
-use borrow.Author.Tests.{not-true, not-false}
 use Rattle.text_script.specs.Script.{place_of}
 use Rattle.text_script.proofs.Says.{no_row, no_address, at_address}
-use borrow.Author.Rules.{rules}
 use Rattle.text_script.proofs.script_line.store_line.Goals as goal
 
 pub returns-then-not-is_bytes : goal.returns-then-not-is_bytes

@@ -1,6 +1,5 @@
 -- `text_script::script_line::with_options` meets its contract. Assumes nothing.
 use Rattle.text_script.specs.Script.{with_options}
-use borrow.Author.Rules.{rules}
 use Rattle.text_script.proofs.script_line.with_options.Goals as goal
 
 pub returns-in_default : goal.returns-in_default

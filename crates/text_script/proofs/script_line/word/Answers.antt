@@ -2,7 +2,6 @@
 use mathlib.Core.Path.{sym, ap, ◌∙◌}
 use Rattle.text_script.proofs.Says.{word_on, word_show, word_play, word_fresh, word_chip, word_frame, word_none}
 use Rattle.text_script.specs.declared.script_line.Line.TheVariants.{OfChip}
-use borrow.Author.Rules.{rules}
 use Rattle.text_script.proofs.script_line.word.Goals as goal
 
 pub returns-then-same_bytes : goal.returns-then-same_bytes

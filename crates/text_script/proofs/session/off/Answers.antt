@@ -1,9 +1,8 @@
 -- `text_script::session::off` meets its contract. Assumes nothing.
-use mathlib.Core.Path.{refl, ap, ◌∙◌}
+use mathlib.Core.Path.{refl, ap}
 use Rattle.rules.specs.StandIn.{received}
 use Rattle.standin_state.specs.declared.Core.{Core}
 use Rattle.standin_engine.specs.View.{view}
-use borrow.Author.Rules.{rules}
 use Rattle.text_script.proofs.session.off.Goals as goal
 
 pub returns : goal.returns

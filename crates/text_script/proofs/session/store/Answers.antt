@@ -1,7 +1,5 @@
 -- `text_script::session::store` meets its contract. Assumes nothing.
-use mathlib.Core.Path.{sym, ◌∙◌}
 use Rattle.text_script.proofs.Says.{stored_code, stored_data}
-use borrow.Author.Rules.{rules}
 use Rattle.text_script.proofs.session.store.Goals as goal
 
 pub returns-in-Code : goal.returns-in-Code

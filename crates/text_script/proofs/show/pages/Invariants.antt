@@ -1,6 +1,5 @@
 -- `text_script::show::pages` is safe and ends: each page is passed once. Assumes nothing.
 use Prim.Native.Nat.{◌-◌, ◌≤◌}
-use borrow.Author.Rules.{rules}
 use Rattle.text_script.proofs.show.pages.Given as goal
 
 abbrev pub invariant-loop-k : goal.invariant-loop-k

@@ -4,7 +4,6 @@ use Prim.Native.Nat.{ℕ}
 use lib.Dec.{ltb}
 use lib.ListN.{length}
 use Rattle.sheet.proofs.Fields.{says}
-use borrow.Author.Rules.{rules}
 use Rattle.text_show.proofs.entries.body_wrong.Goals as goal
 
 pub returns : goal.returns

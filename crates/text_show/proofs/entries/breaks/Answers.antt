@@ -1,6 +1,5 @@
 -- `text_show::entries::breaks` meets its contract: by the refusal, which the match knows. Assumes nothing.
 use Rattle.text_show.specs.Refused.{breaks}
-use borrow.Author.Rules.{rules}
 use Rattle.text_show.proofs.entries.breaks.Goals as goal
 
 pub returns-in-D0 : goal.returns-in-D0

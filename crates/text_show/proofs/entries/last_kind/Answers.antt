@@ -2,7 +2,6 @@
 use mathlib.Core.Path.{sym, ap, ◌∙◌}
 use mathlib.Core.Bool.{Bool, cond}
 use Rattle.rules.specs.Sheet.{two, one, last_kind}
-use borrow.Author.Rules.{rules}
 use Rattle.text_show.proofs.entries.last_kind.Goals as goal
 
 pub returns-then-form_two : goal.returns-then-form_two

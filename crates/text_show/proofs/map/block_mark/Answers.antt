@@ -1,12 +1,9 @@
 -- `text_show::map::block_mark` meets its contract: after the steps that were gone through. Assumes nothing.
-use mathlib.Core.Path.{◌≡◌, refl, sym, ap, ◌∙◌}
-use Prim.Native.Nat.{◌-◌, ◌<◌, ◌≤◌}
+use mathlib.Core.Path.{refl, sym, ap, ◌∙◌}
 use native.Mathlib.Omega.{arith}
 use Rattle.rules.specs.declared.Step.{Step}
-use Rattle.rules.specs.Sheet.{count}
 use Rattle.text_show.specs.Map.{mark_by, mark_after}
 use Rattle.text_show.proofs.Marks.{one_more_step}
-use borrow.Author.Rules.{rules}
 use Rattle.text_show.proofs.map.block_mark.Goals as goal
 
 pub loop-i-init : goal.loop-i-init
@@ -15,7 +12,7 @@ loop-i-init c = (omega arith, c.count-i-end.ensures.1, c.count-i-end.ensures.0, 
 
 -- ?? add-i : tie.Need-overflow-add-i invariant-loop decreases-loop
 -- ?? add-i c = omega arith
--- ?? 
+-- ??
 
 pub loop-i-preserved : goal.loop-i-preserved
 loop-i-preserved c =

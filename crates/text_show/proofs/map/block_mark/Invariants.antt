@@ -1,12 +1,8 @@
 -- `text_show::map::block_mark` meets its contract: after the steps that were gone through. Assumes nothing.
-use mathlib.Core.Path.{◌≡◌, refl, sym, ap, ◌∙◌}
+use mathlib.Core.Path.{◌≡◌}
 use Prim.Native.Nat.{◌-◌, ◌<◌, ◌≤◌}
-use native.Mathlib.Omega.{arith}
-use Rattle.rules.specs.declared.Step.{Step}
 use Rattle.rules.specs.Sheet.{count}
-use Rattle.text_show.specs.Map.{mark_by, mark_after}
-use Rattle.text_show.proofs.Marks.{one_more_step}
-use borrow.Author.Rules.{rules}
+use Rattle.text_show.specs.Map.{mark_after}
 use Rattle.text_show.proofs.map.block_mark.Given as goal
 
 abbrev pub invariant-loop-i : goal.invariant-loop-i

@@ -1,6 +1,5 @@
 -- `text_show::map::is_code` meets its contract: by the flash, which the match knows. Assumes nothing.
 use Rattle.rules.specs.Chip.{same_flash}
-use borrow.Author.Rules.{rules}
 use Rattle.text_show.proofs.map.is_code.Goals as goal
 
 pub returns-in-Code : goal.returns-in-Code

@@ -1,8 +1,7 @@
 -- `text_show::map::mark_by` meets its contract: covered, or not. Assumes nothing.
 use mathlib.Core.Path.{sym, ◌∙◌}
-use borrow.Author.Tests.{le-leb, lt-leb, not-true, not-false}
+use borrow.Author.Tests.{le-leb, lt-leb}
 use Rattle.text_show.specs.Map.{mark_by}
-use borrow.Author.Rules.{rules}
 use Rattle.text_show.proofs.map.mark_by.Goals as goal
 
 pub returns-then-not-same_flash : goal.returns-then-not-same_flash

@@ -1,10 +1,8 @@
 -- `text_show::map::put_code_rows` meets its contract: the rows that are left, added to what there is, are all. Assumes nothing.
-use mathlib.Core.Path.{◌≡◌, refl}
 use Prim.Native.Nat.{◌+◌, ◌-◌, ◌*◌, ◌<◌, ◌≤◌}
 use native.Mathlib.Omega.{arith}
-use lib.ListN.{length}
 use Rattle.rules.specs.declared.Flash.TheVariants.{Code}
-use Rattle.text_out.specs.Out.{out, add}
+use Rattle.text_out.specs.Out.{out}
 use Rattle.text_out.proofs.Appended.{add_append, add_none}
 use Rattle.text_show.specs.Map.{row_text, row_pages, code_rows}
 use Rattle.text_show.proofs.Marks.{one_row, no_row}

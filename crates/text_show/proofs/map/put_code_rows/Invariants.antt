@@ -1,13 +1,9 @@
 -- `text_show::map::put_code_rows` meets its contract: the rows that are left, added to what there is, are all. Assumes nothing.
-use mathlib.Core.Path.{◌≡◌, refl}
-use Prim.Native.Nat.{◌+◌, ◌-◌, ◌*◌, ◌<◌, ◌≤◌}
-use native.Mathlib.Omega.{arith}
+use mathlib.Core.Path.{◌≡◌}
+use Prim.Native.Nat.{◌-◌, ◌≤◌}
 use lib.ListN.{length}
-use Rattle.rules.specs.declared.Flash.TheVariants.{Code}
 use Rattle.text_out.specs.Out.{out, add}
-use Rattle.text_out.proofs.Appended.{add_append, add_none}
-use Rattle.text_show.specs.Map.{row_text, row_pages, code_rows}
-use Rattle.text_show.proofs.Marks.{one_row, no_row}
+use Rattle.text_show.specs.Map.{code_rows}
 use Rattle.text_show.proofs.map.put_code_rows.Given as goal
 
 abbrev pub invariant-loop-row : goal.invariant-loop-row

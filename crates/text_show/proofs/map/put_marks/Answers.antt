@@ -1,14 +1,11 @@
 -- `text_show::map::put_marks` meets its contract: the pages that are left, added to what there is, are all. Assumes nothing.
-use mathlib.Core.Path.{◌≡◌, refl}
 use mathlib.Core.List.{[], ◌∷◌}
 use Prim.Native.Nat.{◌+◌, ◌-◌, ◌<◌, ◌≤◌}
 use native.Mathlib.Omega.{arith}
-use lib.ListN.{length}
-use Rattle.text_out.specs.Out.{out, add}
+use Rattle.text_out.specs.Out.{out}
 use Rattle.text_out.proofs.Appended.{add_append, add_none}
 use Rattle.text_show.specs.Map.{page_mark, marks_from}
 use Rattle.text_show.proofs.Marks.{one_page_lem, no_page}
-use borrow.Author.Rules.{rules}
 use Rattle.text_show.proofs.map.put_marks.Goals as goal
 
 pub loop-i-preserved : goal.loop-i-preserved

@@ -1,7 +1,6 @@
 -- `text_show::map::put_row` meets its contract: the texts of the calls, one behind the other. Assumes nothing.
 use Rattle.text_out.proofs.Appended.{add_append}
 use Rattle.text_show.specs.Map.{row_text}
-use borrow.Author.Rules.{rules}
 use Rattle.text_show.proofs.map.put_row.Goals as goal
 
 pub returns : goal.returns

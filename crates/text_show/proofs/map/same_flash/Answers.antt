@@ -2,7 +2,6 @@
 use mathlib.Core.Path.{ap, ◌∙◌}
 use mathlib.Core.Bool.{not}
 use Rattle.text_show.proofs.Marks.{not_code}
-use borrow.Author.Rules.{rules}
 use Rattle.text_show.proofs.map.same_flash.Goals as goal
 
 pub returns-in-Data : goal.returns-in-Data

@@ -1,6 +1,5 @@
 -- `text_show::map::touched` meets its contract: by the kind, which the match knows. Assumes nothing.
 use Rattle.text_show.specs.Map.{touched}
-use borrow.Author.Rules.{rules}
 use Rattle.text_show.proofs.map.touched.Goals as goal
 
 pub returns-in-Erase : goal.returns-in-Erase

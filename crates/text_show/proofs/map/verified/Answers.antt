@@ -1,7 +1,6 @@
 -- `text_show::map::verified` meets its contract: written, or not. Assumes nothing.
 use borrow.Author.Tests.{eq-eqb, ne_eqb}
 use Rattle.text_show.specs.Map.{touched}
-use borrow.Author.Rules.{rules}
 use Rattle.text_show.proofs.map.verified.Goals as goal
 
 pub returns-then-c-eq-WRITTEN : goal.returns-then-c-eq-WRITTEN

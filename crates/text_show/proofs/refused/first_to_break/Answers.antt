@@ -1,11 +1,8 @@
 -- `text_show::refused::first_to_break` meets its contract: the first is among those that are left. Assumes nothing.
-use mathlib.Core.Path.{◌≡◌, sym, ap, ◌∙◌}
-use Prim.Native.Nat.{◌-◌, ◌<◌, ◌≤◌}
+use mathlib.Core.Path.{sym, ◌∙◌}
+use Prim.Native.Nat.{◌<◌}
 use native.Mathlib.Omega.{arith}
-use Rattle.rules.specs.Sheet.{count}
-use Rattle.text_show.specs.Refused.{first_to_break}
 use Rattle.text_show.proofs.Breaking.{this_breaks, later_breaks, none_breaks}
-use borrow.Author.Rules.{rules}
 use Rattle.text_show.proofs.refused.first_to_break.Goals as goal
 
 pub returns-then-breaks : goal.returns-then-breaks
@@ -17,7 +14,7 @@ returns-then-breaks c =
 
 -- ?? add-i : tie.Need-overflow-add-i invariant-loop decreases-loop
 -- ?? add-i c = omega arith
--- ?? 
+-- ??
 
 pub loop-i-preserved : goal.loop-i-preserved
 loop-i-preserved c =

@@ -1,11 +1,8 @@
 -- `text_show::refused::first_to_break` meets its contract: the first is among those that are left. Assumes nothing.
-use mathlib.Core.Path.{◌≡◌, sym, ap, ◌∙◌}
+use mathlib.Core.Path.{◌≡◌}
 use Prim.Native.Nat.{◌-◌, ◌<◌, ◌≤◌}
-use native.Mathlib.Omega.{arith}
 use Rattle.rules.specs.Sheet.{count}
 use Rattle.text_show.specs.Refused.{first_to_break}
-use Rattle.text_show.proofs.Breaking.{this_breaks, later_breaks, none_breaks}
-use borrow.Author.Rules.{rules}
 use Rattle.text_show.proofs.refused.first_to_break.Given as goal
 
 abbrev pub invariant-loop-i : goal.invariant-loop-i

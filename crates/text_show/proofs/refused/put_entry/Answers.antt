@@ -3,7 +3,6 @@ use borrow.Author.Tests.{lt-ltb, le-ltb}
 use Rattle.text_out.specs.Out.{add}
 use Rattle.text_out.proofs.Appended.{add_append}
 use Rattle.text_show.specs.Refused.{entry_text}
-use borrow.Author.Rules.{rules}
 use Rattle.text_show.proofs.refused.put_entry.Goals as goal
 
 pub returns-then-i-n : goal.returns-then-i-n

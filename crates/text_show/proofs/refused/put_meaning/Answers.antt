@@ -1,7 +1,6 @@
 -- `text_show::refused::put_meaning` meets its contract: by the refusal, which the match knows. Assumes nothing.
 use Rattle.text_out.specs.Out.{add}
 use Rattle.text_show.specs.Refused.{meaning}
-use borrow.Author.Rules.{rules}
 use Rattle.text_show.proofs.refused.put_meaning.Goals as goal
 
 pub returns-in-D0 : goal.returns-in-D0

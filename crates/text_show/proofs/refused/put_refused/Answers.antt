@@ -1,7 +1,6 @@
 -- `text_show::refused::put_refused` meets its contract: the texts of the calls, one behind the other. Assumes nothing.
 use Rattle.text_out.proofs.Appended.{add_append}
 use Rattle.text_show.specs.Refused.{refused_text}
-use borrow.Author.Rules.{rules}
 use Rattle.text_show.proofs.refused.put_refused.Goals as goal
 
 pub returns : goal.returns

@@ -1,11 +1,10 @@
 -- `text_show::steps::most_sent` meets its contract: the frames of the steps that are left, with those counted, are all. Assumes nothing.
 use mathlib.Core.Path.{◌≡◌, ap, ◌∙◌}
-use Prim.Native.Nat.{◌+◌, ◌-◌, ◌*◌, ◌<◌, ◌≤◌}
+use Prim.Native.Nat.{◌<◌, ◌≤◌}
 use native.Mathlib.Omega.{arith}
-use Rattle.rules.specs.Run.{most_frames, most_from}
-use Rattle.rules.specs.Sheet.{count, step_at}
+use Rattle.rules.specs.Run.{most_frames}
+use Rattle.rules.specs.Sheet.{step_at}
 use Rattle.text_show.proofs.Lines.{one_sends, none_sends}
-use borrow.Author.Rules.{rules}
 use Rattle.text_show.proofs.steps.most_sent.Goals as goal
 
 pub loop-i-preserved : goal.loop-i-preserved

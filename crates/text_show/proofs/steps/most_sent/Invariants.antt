@@ -1,11 +1,8 @@
 -- `text_show::steps::most_sent` meets its contract: the frames of the steps that are left, with those counted, are all. Assumes nothing.
-use mathlib.Core.Path.{◌≡◌, ap, ◌∙◌}
+use mathlib.Core.Path.{◌≡◌}
 use Prim.Native.Nat.{◌+◌, ◌-◌, ◌*◌, ◌<◌, ◌≤◌}
-use native.Mathlib.Omega.{arith}
-use Rattle.rules.specs.Run.{most_frames, most_from}
-use Rattle.rules.specs.Sheet.{count, step_at}
-use Rattle.text_show.proofs.Lines.{one_sends, none_sends}
-use borrow.Author.Rules.{rules}
+use Rattle.rules.specs.Run.{most_from}
+use Rattle.rules.specs.Sheet.{count}
 use Rattle.text_show.proofs.steps.most_sent.Given as goal
 
 abbrev pub invariant-loop-i : goal.invariant-loop-i

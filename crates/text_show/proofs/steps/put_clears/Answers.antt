@@ -2,7 +2,6 @@
 use Prim.Native.Nat.{◌/◌, ◌%◌}
 use borrow.Author.Tests.{eq-eqb, ne_eqb}
 use Rattle.text_show.specs.Steps.{clears_text}
-use borrow.Author.Rules.{rules}
 use Rattle.text_show.proofs.steps.put_clears.Goals as goal
 
 pub returns-then-flags-eq0 : goal.returns-then-flags-eq0

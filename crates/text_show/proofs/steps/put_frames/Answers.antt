@@ -1,7 +1,6 @@
 -- `text_show::steps::put_frames` meets its contract: the texts of the calls, one behind the other. Assumes nothing.
 use Rattle.text_out.proofs.Appended.{add_append}
 use Rattle.text_show.specs.Steps.{frames_line}
-use borrow.Author.Rules.{rules}
 use Rattle.text_show.proofs.steps.put_frames.Goals as goal
 
 pub returns : goal.returns

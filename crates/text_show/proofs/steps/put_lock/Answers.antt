@@ -1,7 +1,6 @@
 -- `text_show::steps::put_lock` meets its contract: the texts of the calls, one behind the other. Assumes nothing.
 use Rattle.text_out.proofs.Appended.{add_append}
 use Rattle.text_show.specs.Steps.{lock_line}
-use borrow.Author.Rules.{rules}
 use Rattle.text_show.proofs.steps.put_lock.Goals as goal
 
 pub returns : goal.returns

@@ -1,7 +1,6 @@
 -- `text_show::steps::put_range` meets its contract: the texts of the calls, one behind the other. Assumes nothing.
 use Rattle.text_out.proofs.Appended.{add_append}
 use Rattle.text_show.specs.Steps.{range_line}
-use borrow.Author.Rules.{rules}
 use Rattle.text_show.proofs.steps.put_range.Goals as goal
 
 pub returns : goal.returns

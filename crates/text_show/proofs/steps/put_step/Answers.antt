@@ -3,7 +3,6 @@ use mathlib.Core.Path.{sym, ◌∙◌}
 use borrow.Author.Tests.{eq-eqb, ne_eqb}
 use Rattle.rules.specs.Numbers.{kind_number}
 use Rattle.text_show.specs.Steps.{step_text}
-use borrow.Author.Rules.{rules}
 use Rattle.text_show.proofs.steps.put_step.Goals as goal
 
 pub returns-then-kind_number-eq-LOCK : goal.returns-then-kind_number-eq-LOCK

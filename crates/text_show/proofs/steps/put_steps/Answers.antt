@@ -1,14 +1,11 @@
 -- `text_show::steps::put_steps` meets its contract: the lines that are left, added to what there is, are all. Assumes nothing.
-use mathlib.Core.Path.{◌≡◌, refl}
 use Prim.Native.Nat.{◌+◌, ◌-◌, ◌<◌, ◌≤◌}
 use native.Mathlib.Omega.{arith}
-use lib.ListN.{length}
-use Rattle.rules.specs.Sheet.{count, step_at}
-use Rattle.text_out.specs.Out.{out, add}
+use Rattle.rules.specs.Sheet.{step_at}
+use Rattle.text_out.specs.Out.{out}
 use Rattle.text_out.proofs.Appended.{add_append, add_none}
 use Rattle.text_show.specs.Steps.{step_text, steps_from}
 use Rattle.text_show.proofs.Lines.{one_step, no_step}
-use borrow.Author.Rules.{rules}
 use Rattle.text_show.proofs.steps.put_steps.Goals as goal
 
 pub loop-i-preserved : goal.loop-i-preserved

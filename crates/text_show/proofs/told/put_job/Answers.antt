@@ -1,7 +1,6 @@
 -- `text_show::told::put_job` meets its contract: the texts of the calls, one behind the other. Assumes nothing.
 use Rattle.text_out.proofs.Appended.{add_append}
 use Rattle.text_show.specs.Show.{job_text}
-use borrow.Author.Rules.{rules}
 use Rattle.text_show.proofs.told.put_job.Goals as goal
 
 pub returns : goal.returns

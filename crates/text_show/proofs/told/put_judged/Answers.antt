@@ -1,6 +1,5 @@
 -- `text_show::told::put_judged` meets its contract: by the verdict, which the match knows. Assumes nothing.
 use Rattle.text_show.specs.Show.{judged_text}
-use borrow.Author.Rules.{rules}
 use Rattle.text_show.proofs.told.put_judged.Goals as goal
 
 pub returns-in-Accepted : goal.returns-in-Accepted

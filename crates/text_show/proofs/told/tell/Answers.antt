@@ -4,7 +4,6 @@ use Rattle.text_out.specs.Out.{Filled}
 use Rattle.text_out.proofs.Appended.{add_append, filled}
 use Rattle.text_show.specs.Show.{show_text}
 use Rattle.text_show.proofs.Room.{show_fits}
-use borrow.Author.Rules.{rules}
 use Rattle.text_show.proofs.told.tell.Goals as goal
 
 pub returns : goal.returns

@@ -1,7 +1,6 @@
 -- `text_show::words::put_chip` meets its contract: by its count of code blocks. Assumes nothing.
 use borrow.Author.Tests.{eq-eqb, ne_eqb}
 use Rattle.text_show.specs.Words.{chip_line}
-use borrow.Author.Rules.{rules}
 use Rattle.text_show.proofs.words.put_chip.Goals as goal
 
 pub returns-then-chip-eq64 : goal.returns-then-chip-eq64

@@ -1,6 +1,5 @@
 -- `text_show::words::put_flash` meets its contract: by the flash, which the match knows. Assumes nothing.
 use Rattle.rules.specs.Text.{flash_text}
-use borrow.Author.Rules.{rules}
 use Rattle.text_show.proofs.words.put_flash.Goals as goal
 
 pub returns-in-Code : goal.returns-in-Code

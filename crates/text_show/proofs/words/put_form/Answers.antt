@@ -1,7 +1,6 @@
 -- `text_show::words::put_form` meets its contract: by the form. Assumes nothing.
 use mathlib.Core.Path.{sym, ◌∙◌}
 use Rattle.text_show.specs.Words.{form_line}
-use borrow.Author.Rules.{rules}
 use Rattle.text_show.proofs.words.put_form.Goals as goal
 
 pub returns-then-form_two : goal.returns-then-form_two

@@ -1,6 +1,5 @@
 -- `text_show::words::put_hex5` meets its contract: the first digit, and the four of the low word. Assumes nothing.
 use Rattle.text_show.proofs.Lines.{address_put}
-use borrow.Author.Rules.{rules}
 use Rattle.text_show.proofs.words.put_hex5.Goals as goal
 
 pub returns : goal.returns

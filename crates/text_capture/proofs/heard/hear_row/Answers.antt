@@ -25,8 +25,6 @@ loop-k-preserved c =
     let bs = row_bytes a.sent.now in
     (omega (arith, less), l.invariant.1, search rules, search rules, search rules, l.invariant.5 ∙ row_state _ _ bs l.k (omega (arith, l.invariant.1, less)) _ r.ensures _ h.ensures.data_after, l.invariant.6 ∙ ap (λ (x : List ℕ). matches l.m x (row_bytes a.row.now)) (row_answers _ _ bs l.k (omega (arith, l.invariant.1, less)) _ r.ensures _ h.ensures.data_after _ (c.between.ensures ∙ front_part _ _ h.ensures.reply_after.1 ∙ h.ensures.reply_after.0)) ∙ sym (c.compare-m.ensures _))
 
--- ??
-
 pub returns-clause-data_after : goal.returns-clause-data_after
 returns-clause-data_after c =
     let l = c.loop-k in

@@ -9,10 +9,6 @@ use Rattle.text_script.proofs.chip_file.lent.Goals as goal
 pub returns-then-not-is_known : goal.returns-then-not-is_known
 returns-then-not-is_known c = (sym (lent_none _ _ _ (sym c.is_known.ensures ∙ c.if-not-is_known.true)), omega arith)
 
--- ?? mul-size : tie.Need-overflow-mul-size
--- ?? mul-size c = omega (arith, small_product c.block_size.result c.before.block-count.result (omega (arith, size_bounds c.before.before.before.before.args.f)) (omega arith))
--- ??
-
 pub returns-then-size-room : goal.returns-then-size-room
 returns-then-size-room c =
     let a = c.args in

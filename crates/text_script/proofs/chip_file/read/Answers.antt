@@ -25,13 +25,6 @@ returns-then-not-states c =
     let s = stating l.s (memory l.code l.«data») in
     sym (from_fresh _ _ _ (c.fresh_chip-s.ensures ∙ ap (λ (k : Chip). fresh_in k (memory c.args.code.now c.args.«data».now)) c.small.ensures) ∙ l.invariant.5 ∙ file_bad _ l.at l.number s e.result e.ensures (omega (arith, c.if-end-text.false)) (sym (c.states.ensures ∙ ap is_stating (c.parse-said.ensures ∙ said_as _ _ _ _ _ c.lent.ensures.0 c.lent-in-loop-at.ensures.0)) ∙ c.if-not-states.true))
 
--- ?? add_at : tie.Need-overflow-add-at invariant-loop decreases-loop
--- ?? add_at c =
--- ??     let e = c.before.before.before.before.before.before.before.before.before.before.before.before.before in
--- ??     let l = e.before.before.before.loop in
--- ??     record { fits = omega (arith, e.if1.false, l.invariant.0) }
--- ??
-
 pub loop-at-preserved : goal.loop-at-preserved
 loop-at-preserved c =
     let e = c.line_end-end in

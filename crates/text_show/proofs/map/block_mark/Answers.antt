@@ -10,10 +10,6 @@ pub loop-i-init : goal.loop-i-init
 unfolding mark_after
 loop-i-init c = (omega arith, c.count-i-end.ensures.1, c.count-i-end.ensures.0, refl)
 
--- ?? add-i : tie.Need-overflow-add-i invariant-loop decreases-loop
--- ?? add-i c = omega arith
--- ??
-
 pub loop-i-preserved : goal.loop-i-preserved
 loop-i-preserved c =
     let l = c.loop-i in

@@ -12,10 +12,6 @@ returns-then-breaks c =
     let h : l.i < c.count-n.result = omega arith in
     sym (l.invariant.2 ∙ this_breaks a.refusal a.sheet.now l.i c.count-n.result h (sym c.breaks.ensures ∙ c.if-breaks.true))
 
--- ?? add-i : tie.Need-overflow-add-i invariant-loop decreases-loop
--- ?? add-i c = omega arith
--- ??
-
 pub loop-i-preserved : goal.loop-i-preserved
 loop-i-preserved c =
     let l = c.loop-i in

@@ -2,7 +2,6 @@
 use mathlib.Core.Path.{sym, ap, ◌∙◌}
 use Rattle.rules.specs.Lines.{row_bytes}
 use Rattle.text_session.proofs.Signs.{given_row, given_none}
-use borrow.Author.Rules.{rules}
 use Rattle.text_session.proofs.line.given_row.Goals as goal
 
 pub returns-then-byte_at-ne60 : goal.returns-then-byte_at-ne60

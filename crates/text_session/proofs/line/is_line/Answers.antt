@@ -1,9 +1,7 @@
 -- `text_session::line::is_line` meets its contract. Assumes nothing.
 use mathlib.Core.Path.{sym, ap, ◌∙◌}
-use borrow.Author.Tests.{not-true, not-false}
 use Rattle.text_read.specs.Bytes.{is_bytes}
 use Rattle.text_session.proofs.Signs.{line_power, line_unsigned, line_signed}
-use borrow.Author.Rules.{rules}
 use Rattle.text_session.proofs.line.is_line.Goals as goal
 
 pub returns-then-same_bytes : goal.returns-then-same_bytes

@@ -1,14 +1,10 @@
 -- `text_session::matching::compare` meets its contract: what is left of the answer decides. Assumes nothing.
-use mathlib.Core.Path.{◌≡◌, refl, sym, ◌∙◌}
+use mathlib.Core.Path.{◌≡◌}
 use mathlib.Core.List.{List, ◌++◌}
 use Prim.Native.Nat.{ℕ, ◌-◌, ◌≤◌}
-use native.Mathlib.Omega.{arith}
 use lib.ListN.{length, drop}
-use borrow.Author.Tests.{not-true, not-false}
 use Rattle.rules.specs.Chip.{same}
 use Rattle.rules.specs.Lines.{row_bytes}
-use Rattle.text_session.proofs.Matches.{row_ends, other_byte, same_byte, answer_ends, no_more, still}
-use borrow.Author.Rules.{rules}
 use Rattle.text_session.proofs.matching.compare.Given as goal
 
 abbrev pub invariant-loop-k : goal.invariant-loop-k

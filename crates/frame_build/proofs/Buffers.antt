@@ -23,6 +23,15 @@ module _ (new b : List ℕ) where
   unfolding put_bytes
   bytes_full h = simp (lt-leb _ _ h)
 
+  -- no more of them than there are
+  pub bytes_most : (put_bytes new b).count ≤ length new
+  unfolding put_bytes
+  bytes_most = go (leb (length new) (length b))
+    where
+      go : (t : Bool) → (cond t (put (length new) (over new b)) (put 0 b)).count ≤ length new
+      go true = omega arith
+      go false = omega arith
+
 -- one byte more of them
 over_suc : (new old : List ℕ) (i : ℕ)
     → i < length new

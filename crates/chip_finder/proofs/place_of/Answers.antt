@@ -8,7 +8,7 @@ pub returns-then-len-count : goal.returns-then-len-count
 returns-then-len-count c = sym (place_other_length _ _ _ _ _ c.if-len-count.true)
 
 pub returns-then-count-last : goal.returns-then-count-last
-returns-then-count-last c = sym (place_past _ _ _ _ _ c.if-len-count.false c.if-count-last.true)
+returns-then-count-last c = sym (place_past _ _ _ _ _ c.if-len-count.false (omega arith))
 
 pub returns-then-last-first : goal.returns-then-last-first
 returns-then-last-first c = sym (place_turned _ _ _ _ _ c.if-len-count.false (omega arith) c.if-last-first.true)

@@ -14,7 +14,7 @@ returns-then-n-gt256 c = sym (frame_long _ _ _ _ c.if-n-lt1.false c.if-n-gt256.t
 
 pub returns-then-buffer-n : goal.returns-then-buffer-n
 returns-then-buffer-n c =
-    sym (frame_full _ _ _ _ c.if-n-lt1.false c.if-n-gt256.false c.if-buffer-n.true)
+    sym (frame_full _ _ _ _ c.if-n-lt1.false c.if-n-gt256.false (omega arith))
 
 pub returns : goal.returns
 returns c =

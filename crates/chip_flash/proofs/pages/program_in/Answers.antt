@@ -1,5 +1,6 @@
 -- `chip_flash::pages::program_in` meets its contract: one law for each outcome. Assumes nothing.
 use mathlib.Core.Path.{sym, ap, ◌∙◌}
+use native.Mathlib.Omega.{arith}
 use lib.ListN.{length}
 use Rattle.chip_finder.proofs.Places.{placed, cut_length}
 use Rattle.chip_flash.proofs.Writes.{program_missing, program_left, program_done}
@@ -21,13 +22,13 @@ pub returns-then-status-ne6 : goal.returns-then-status-ne6
 returns-then-status-ne6 c = program_left _ _ _ _ _ (placed _ _ _ _ _ (sym c.in-Bytes.ensures)) _ c.page_status-status.ensures c.if-status-ne6.true
 
 pub slice_bounds-part-count : goal.slice_bounds-part-count
-slice_bounds-part-count c = (placed _ _ _ _ _ (sym c.in-Bytes.ensures)).forward
+slice_bounds-part-count c = let p = placed _ _ _ _ _ (sym c.in-Bytes.ensures) in omega (arith, p.forward, p.room)
 
 pub slice_bounds-part-start : goal.slice_bounds-part-start
-slice_bounds-part-start c = (placed _ _ _ _ _ (sym c.in-Bytes.ensures)).forward
+slice_bounds-part-start c = let p = placed _ _ _ _ _ (sym c.in-Bytes.ensures) in omega (arith, p.forward, p.room)
 
 pub slice_bounds-part-end : goal.slice_bounds-part-end
-slice_bounds-part-end c = (placed _ _ _ _ _ (sym c.in-Bytes.ensures)).room
+slice_bounds-part-end c = let p = placed _ _ _ _ _ (sym c.in-Bytes.ensures) in omega (arith, p.forward, p.room)
 
 pub returns : goal.returns
 returns c =

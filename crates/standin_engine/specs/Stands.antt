@@ -1,5 +1,5 @@
 -- "The byte is not taken and state and buffers stand" (01, Status bytes and their order), literally. Assumes nothing.
-use Rattle.std.specs.Prelude.{ℕ, ◌≡◌}
+use Rattle.std.specs.Prelude.{◌≡◌}
 use Rattle.rules.specs.declared.numbers.Number.{Number}
 
 -- where the number of a call's answer has a letter, the call was refused, and it stands as it was

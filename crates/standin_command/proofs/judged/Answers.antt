@@ -1,10 +1,10 @@
 -- `standin_command::judged` meets its contract: a fault of the frame is answered, else its command refused or done. Assumes nothing.
-use mathlib.Core.Path.{◌≡◌, sym, ap, ◌∙◌}
+use mathlib.Core.Path.{◌≡◌, ap, ◌∙◌}
 use Prim.Native.Nat.{ℕ, ◌-◌}
 use native.Mathlib.Omega.{arith}
 use lib.ListN.{take}
 use Rattle.rules.specs.declared.Judged.{Judged}
-use Rattle.rules.specs.Frame.{frame_size, len_of}
+use Rattle.rules.specs.Frame.{frame_size, len_of, status_byte}
 use Rattle.rules.specs.Command.{decoded, judged_order, judged}
 use Rattle.rules.specs.StandIn.{on_judged, on_command}
 use Rattle.chip_finder.specs.LentFlashes.{memory}
@@ -32,5 +32,6 @@ returns c =
     let n = c.frame_size.result - 0 in
     let v = c.judge_command-v in
     let size : n ≡ frame_size (len_of b) = omega (arith, c.frame_size.ensures.0) in
-    let j = went_on _ _ v.ensures (judged_order a.c.options m (take (frame_size (len_of b)) b) (decoded a.chip (take (frame_size (len_of b)) b))) (sym c.status_byte.ensures ∙ c.if-status_byte-ne6.false) in
+    let well : status_byte v.result ≡ 0x06 = omega arith in
+    let j = went_on _ _ v.ensures (judged_order a.c.options m (take (frame_size (len_of b)) b) (decoded a.chip (take (frame_size (len_of b)) b))) well in
     same_out _ _ _ _ _ _ (ap (λ (k : ℕ). on_order a.chip a.c m (take k b) (decoded a.chip (take k b))) size ∙ ap (λ (x : Judged). on_judged x a.chip (idle a.c m)) j) c.obey.ensures

@@ -16,14 +16,14 @@ returns-then-have-eq1 c =
     let a = c.args in
     let xs = a.held.now in
     let len = len_of (set xs 1 a.byte) in
-    let come : ◌≡◌ {A = ℕ} 1 0 → ⊥ = λ z. omega arith in
+    let some : ◌≡◌ {A = ℕ} 1 0 → ⊥ = λ z. omega arith in
     let fits : 1 < length xs = omega (arith, c.requires) in
     let here : 1 ≡ held_count 1 xs = held_small 1 xs (omega arith) in
     let short : 1 + 1 ≡ frame_size len → ⊥ = λ z. omega (arith, frame_size_lem len, body_least len) in
     λ m reply.
     held_as _ (take 2 (set xs 1 a.byte)) _ reply
-    (held_is 2 2 (set xs 1 a.byte) (still_short xs 1 a.byte 1 fits here come short))
-    (continued a.chip (view a.c xs m) a.byte xs 1 come fits short)
+    (held_is 2 2 (set xs 1 a.byte) (still_short xs 1 a.byte 1 fits here some short))
+    (continued a.chip (view a.c xs m) a.byte xs 1 some fits short)
     ∙ ap (λ (g : List ℕ). answered (receive a.chip (view a.c xs m) g a.byte) reply) (sym (ap (λ (k : ℕ). received k xs) c.if-have-eq1.true ∙ held_is 1 1 xs here))
 
 pub begin-requires : goal.begin-requires

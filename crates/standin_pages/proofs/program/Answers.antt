@@ -1,5 +1,6 @@
 -- `standin_pages::program` meets its contract: each of its answers is an outcome of `on_page`. Assumes nothing.
 use mathlib.Core.Path.{ap, ◌∙◌}
+use native.Mathlib.Omega.{arith}
 use borrow.Author.Tests.{eq-eqb, ne_eqb}
 use Rattle.rules.specs.declared.Task.TheVariants.{Programming}
 use Rattle.rules.specs.Frame.{status_byte, note_of}
@@ -31,7 +32,7 @@ returns-then-last-clause-reply_after c =
     let x = c.program_page-st in
     let m = memory x.new.code x.new.«data» in
     let o = told_last Programming a.p s x.result m (eq-eqb _ _ c.if-last.true) in
-    let done = page_done a.p s a.frame.now c.status_byte-line.result (c.status_byte-line.ensures ∙ ap status_byte c.judge_data-fault.ensures) a.chip c.requires c.if-line-ne6.false c.if-status_before-ne6.false
+    let done = page_done a.p s a.frame.now c.status_byte-line.result (c.status_byte-line.ensures ∙ ap status_byte c.judge_data-fault.ensures) a.chip c.requires c.if-line-ne6.false (omega arith)
     c.page_protected-guarded.result c.page_protected-guarded.ensures _ _ x.ensures in
     answers a.reply.now (o ∙ done) (c.paired-then-last.ensures.reply_after m)
 
@@ -42,6 +43,6 @@ returns-clause-reply_after c =
     let x = c.program_page-st in
     let m = memory x.new.code x.new.«data» in
     let o = told_more Programming a.p s x.result m (ne_eqb _ _ c.if-last.false) c.later.result c.later.ensures in
-    let done = page_done a.p s a.frame.now c.status_byte-line.result (c.status_byte-line.ensures ∙ ap status_byte c.judge_data-fault.ensures) a.chip c.requires c.if-line-ne6.false c.if-status_before-ne6.false
+    let done = page_done a.p s a.frame.now c.status_byte-line.result (c.status_byte-line.ensures ∙ ap status_byte c.judge_data-fault.ensures) a.chip c.requires c.if-line-ne6.false (omega arith)
     c.page_protected-guarded.result c.page_protected-guarded.ensures _ _ x.ensures in
     answers a.reply.now (o ∙ done) (c.paired-2.ensures.reply_after m)

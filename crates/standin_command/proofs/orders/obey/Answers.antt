@@ -1,7 +1,7 @@
 -- `standin_command::orders::obey` meets its contract: the command of the code that came. Assumes nothing.
-use mathlib.Core.Path.{◌≡◌, refl, sym, ap, ◌∙◌}
+use mathlib.Core.Path.{refl, ap, ◌∙◌}
 use mathlib.Core.Bool.{cond, ◌&&◌}
-use Prim.Native.Nat.{ℕ}
+use native.Mathlib.Omega.{arith}
 use lib.Dec.{leb}
 use Rattle.rules.specs.declared.Options.{Options}
 use Rattle.rules.specs.declared.Order.TheVariants.{Reset, Verify, BlankCheck, Program, BaudRate, Identity, SecuritySet, SecurityGet, Release, WindowSet, WindowGet, Checksum}
@@ -141,7 +141,6 @@ returns-in_default c =
     let a = c.args in
     let f = a.f.now in
     let m = memory a.code.now a.«data».now in
-    let r = c.in_default.in_default-own.rest in
-    let is = c.byte_at-command in
-    let no : (k : ℕ) → (is.result ≡ k → ⊥) → k ≡ code_of f → ⊥ = λ k n e. n (is.ensures ∙ sym e) in
-    same_out _ _ _ _ _ _ (ap (on_order a.chip a.c m f) (unlisted commands (code_of f) (no _ r.0.0.0.0.0.0.0.0.0.0.0.0.1, (no _ r.0.0.0.0.0.0.0.0.0.0.0.1, (no _ r.0.0.0.0.0.0.0.0.0.0.1, (no _ r.0.0.0.0.0.0.0.0.0.1, (no _ r.0.0.0.0.0.0.0.0.1, (no _ r.0.0.0.0.0.0.0.1, (no _ r.0.0.0.0.0.0.1, (no _ r.0.0.0.0.0.1, (no _ r.0.0.0.0.1, (no _ r.0.0.0.1, (no _ r.0.0.1, (no _ r.0.1, (no _ r.1, tt))))))))))))) a.chip f)) (c.refuse_information.ensures m)
+    let is = c.byte_at-command.ensures in
+    let other = unlisted commands (code_of f) ((λ e. omega arith), ((λ e. omega arith), ((λ e. omega arith), ((λ e. omega arith), ((λ e. omega arith), ((λ e. omega arith), ((λ e. omega arith), ((λ e. omega arith), ((λ e. omega arith), ((λ e. omega arith), ((λ e. omega arith), ((λ e. omega arith), ((λ e. omega arith), tt))))))))))))) a.chip f in
+    same_out _ _ _ _ _ _ (ap (on_order a.chip a.c m f) other) (c.refuse_information.ensures m)

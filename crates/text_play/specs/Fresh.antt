@@ -1,7 +1,7 @@
 -- 01, Trials 16: "The program plays the sheet from standard input to a fresh chip and prints ..": what is printed, for every list of bytes. No packet
 -- is spoken of. Assumes nothing.
 use Rattle.std.specs.Prelude.{ℕ, List, replicate}
-use Rattle.rules.specs.Chip.{Memory, small, fresh_memory}
+use Rattle.rules.specs.Chip.{small, fresh_memory}
 use Rattle.rules.specs.Options.{fresh_options}
 use Rattle.rules.specs.Sheet.{most_steps, verdict}
 use Rattle.rules.specs.Meaning.{Ended, meaning, step_frames}

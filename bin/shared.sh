@@ -5,18 +5,20 @@
 # A command reads this file and says what it is:
 #     usage      how it is called, as 'bin/play [FILE]'
 #     about      what it does: the lines that --help writes below that
+#     program    the program that it runs, where that has another name than the command
 #     options    its options, if it has any, each with a word behind it: '--pty --log'
 # Then it calls, in this order:
 #     take "$@"            answers --help; `given[--pty]` is the word behind an option, `words` are all the others
 #     at_most N            there may be no more words than that
 #     input_from NAME      that file is standard input; with no name, or with -, it stays as it is
-#     run ARGUMENT ..      proves, builds and runs the program that has the command's name; the file `kept` is what it wrote to standard output, `said`
+#     run ARGUMENT ..      proves, builds and runs the program; the file `kept` is what it wrote to standard output, `said`
 #                          what it wrote to standard error, which is passed on
 # A main has no exit status of its own: what it wrote tells how it went. So last comes `made`, for a program that writes a result or a refusal, or `judged`,
 # for one whose lines are the result: they judge what was kept, copy it out and end with the status.
 set -u
 self=$(readlink -f "$0")
 name=${self##*/}
+program=$name
 top=$(dirname "$(dirname "$self")")
 usage=''
 about=''
@@ -94,7 +96,7 @@ input_from() { # [NAME]
 run() { # ARGUMENT ..
     output_is_open
     { : 3<&0; } 2>/dev/null || cannot "standard input is closed: name a file"
-    "$top/tools/prove-program" "$name" || exit 2
+    "$top/tools/prove-program" "$program" "$name" || exit 2
     kept=$(mktemp 2>/dev/null) || cannot "no file can be made in ${TMPDIR:-/tmp}: make room there"
     trap 'rm -f "$kept"' EXIT
     [ ! -t 0 ] || say "reads what you type, up to Ctrl-D; bin/$name --help tells how to name a file"
@@ -102,7 +104,7 @@ run() { # ARGUMENT ..
     local ends
     ends=$(
         exec 2>&1
-        "$top/tools/run-program" "$name" "$@" | cat 2>/dev/null >"$kept"
+        "$top/tools/run-program" "$program" "$@" | cat 2>/dev/null >"$kept"
         printf '\n%s' "${PIPESTATUS[*]}"
     )
     said=${ends%$'\n'*}

@@ -4,11 +4,22 @@
 
 mod run;
 
+use std::env::{Env, FillError};
 use text_lines::lines;
 use text_read::part;
 
-fn main() {
-    let rig = os::arg_count() > 1;
+// Whether there is an argument, whatever it is.
+fn has_argument<R: Env>(rt: &R) -> bool {
+    let mut word = [0u8; 1];
+    match rt.arg(1, &mut word) {
+        Ok(_) => true,
+        Err(FillError::TooLong) => true,
+        Err(FillError::NotPresent) => false,
+    }
+}
+
+fn main(rt: HostRuntime) {
+    let rig = has_argument(&rt);
     if rig {
         io::write_all(2, b"answers: by a rig\n");
     }

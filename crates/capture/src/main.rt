@@ -6,6 +6,9 @@ ghost use Rattle.std.specs.Prelude.{◌≡◌, length};
 
 use rules::Flash;
 use rules::capture::CaptureVerdict;
+use std::env::{Env, FillError};
+use std::io::Input as Reads;
+use std::rt::Files;
 use text_capture::look_over;
 use text_capture::told::{ROOM, put_verdict};
 use text_input::Input;
@@ -29,23 +32,19 @@ const CODE_ROOM: usize = 131072;
 const DATA_ROOM: usize = 8192;
 
 // The text of the chip file; where none is named, nothing.
-fn read_file(buffer: &mut [u8]) -> Input {
-    if os::arg_count() < 2 {
-        return Input::Read(0);
-    }
+fn read_file<R: Env + Files>(rt: &R, buffer: &mut [u8]) -> Input {
     let mut name = [0u8; 4096];
-    let size = os::arg(1, &mut name);
-    let fd = os::open_read(part::between(&name, 0, size));
-    if fd < 0 {
-        return Input::Failed;
+    match rt.arg(1, &mut name) {
+        Ok(size) => text_input::read_file(rt, part::between(&name, 0, size), buffer),
+        Err(FillError::TooLong) => Input::Failed,
+        Err(FillError::NotPresent) => Input::Read(0),
     }
-    text_input::read_from(fd, buffer)
 }
 
 // The chip that the file states; no chip where it cannot be read.
-fn read_chip(code: &mut [u8], data: &mut [u8]) -> ChipFile {
+fn read_chip<R: Env + Files>(rt: &R, code: &mut [u8], data: &mut [u8]) -> ChipFile {
     let mut file = lines::room();
-    match read_file(&mut file) {
+    match read_file(rt, &mut file) {
         Input::Read(n) => {
             // a longer file ends within a line: its last byte is no LF
             file[lines::LIMIT] = 0;
@@ -72,9 +71,9 @@ fn look(s: Stated, text: &[u8], code: &mut [u8], data: &mut [u8]) {
     tell(v);
 }
 
-fn look_at_input(s: Stated, code: &mut [u8], data: &mut [u8]) {
+fn look_at_input<R: Reads>(rt: &R, s: Stated, code: &mut [u8], data: &mut [u8]) {
     let mut text = room();
-    match text_input::read(&mut text) {
+    match text_input::read(rt, &mut text) {
         Input::Read(n) => {
             if n > LONGEST {
                 io::write_all(2, b"capture: input over 4,194,304 bytes\n");
@@ -99,11 +98,11 @@ fn no_chip(number: usize) {
     io::write_all(2, b"\n");
 }
 
-fn main() {
+fn main(rt: HostRuntime) {
     let mut code = [0u8; CODE_ROOM];
     let mut data = [0u8; DATA_ROOM];
-    match read_chip(&mut code, &mut data) {
-        ChipFile::States(s) => look_at_input(s, &mut code, &mut data),
+    match read_chip(&rt, &mut code, &mut data) {
+        ChipFile::States(s) => look_at_input(&rt, s, &mut code, &mut data),
         ChipFile::BadLine(number) => no_chip(number),
     }
 }

@@ -8,6 +8,8 @@ ghost use Rattle.std.specs.Prelude.{◌≡◌, length};
 use octets::same_bytes;
 use rules::{Moved, Refusal};
 use sheet_moves::{move_down, move_up};
+use std::env::Env;
+use std::io::Input as Reads;
 use text_input::Input;
 use text_read::part;
 use text_told::lines::put_refused;
@@ -51,9 +53,9 @@ fn go(up: bool, sheet: &[u8]) {
 }
 
 // The sheet is read, and goes that way.
-fn read(up: bool) {
+fn read<R: Reads>(rt: &R, up: bool) {
     let mut sheet = room();
-    match text_input::read(&mut sheet) {
+    match text_input::read(rt, &mut sheet) {
         Input::Read(n) => go(up, part::between(&sheet, 0, n)),
         Input::Failed => {
             io::write_all(2, b"form: the input cannot be read\n");
@@ -61,15 +63,23 @@ fn read(up: bool) {
     }
 }
 
-fn main() {
+// The length of the argument that was put into the buffer; 0 where there is none, or one that is longer.
+fn argument<R: Env>(rt: &R, word: &mut [u8]) -> usize {
+    match rt.arg(1, word) {
+        Ok(n) => n,
+        Err(_) => 0,
+    }
+}
+
+fn main(rt: HostRuntime) {
     let mut word = [0u8; 8];
-    let n = os::arg(1, &mut word);
+    let n = argument(&rt, &mut word);
     if same_bytes(part::between(&word, 0, n), b"up") {
-        read(true);
+        read(&rt, true);
         return;
     }
     if same_bytes(part::between(&word, 0, n), b"down") {
-        read(false);
+        read(&rt, false);
         return;
     }
     io::write_all(2, b"form: neither up nor down\n");

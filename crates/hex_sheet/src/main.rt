@@ -39,9 +39,9 @@ fn make(text: &[u8]) {
     }
 }
 
-fn main() {
+fn main(rt: HostRuntime) {
     let mut text = room();
-    match text_input::read(&mut text) {
+    match text_input::read(&rt, &mut text) {
         Input::Read(n) => {
             if n > LONGEST {
                 io::write_all(2, b"hex: input over 1,048,576 bytes\n");

@@ -1,4 +1,8 @@
 // The two files that arguments name.
+use std::env::{Env, FillError};
+use std::fs;
+use std::io::Write;
+use std::rt::Files;
 use text_input::Input;
 use text_lines::lines;
 use text_read::part;
@@ -10,33 +14,21 @@ const CHIP: usize = 1;
 
 const LOG: usize = 2;
 
-// What stands for a log that is not wanted, and for one that cannot be written.
-pub(crate) const NONE: i32 = -1;
-
-pub(crate) const FAILED: i32 = -2;
-
 // The text of the chip file; where none is named, nothing.
-fn read_file(buffer: &mut [u8]) -> Input {
+fn read_file<R: Env + Files>(rt: &R, buffer: &mut [u8]) -> Input {
     let mut name = [0u8; 4096];
-    let size = os::arg(CHIP, &mut name);
-    let too_long = os::errno() == libc::ENAMETOOLONG;
-    if too_long {
-        return Input::Failed;
+    match rt.arg(CHIP, &mut name) {
+        Ok(0) => Input::Read(0),
+        Ok(size) => text_input::read_file(rt, part::between(&name, 0, size), buffer),
+        Err(FillError::TooLong) => Input::Failed,
+        Err(FillError::NotPresent) => Input::Read(0),
     }
-    if size == 0 {
-        return Input::Read(0);
-    }
-    let fd = os::open_read(part::between(&name, 0, size));
-    if fd < 0 {
-        return Input::Failed;
-    }
-    text_input::read_from(fd, buffer)
 }
 
 // The chip that the file states; no chip where it cannot be read.
-pub(crate) fn read_chip(code: &mut [u8], data: &mut [u8]) -> ChipFile {
+pub(crate) fn read_chip<R: Env + Files>(rt: &R, code: &mut [u8], data: &mut [u8]) -> ChipFile {
     let mut file = lines::room();
-    match read_file(&mut file) {
+    match read_file(rt, &mut file) {
         Input::Read(n) => {
             // a longer file ends within a line: its last byte is no LF
             file[lines::LIMIT] = 0;
@@ -46,28 +38,38 @@ pub(crate) fn read_chip(code: &mut [u8], data: &mut [u8]) -> ChipFile {
     }
 }
 
+// A log that cannot be written, and one that is not wanted or is kept.
+pub(crate) enum Log<W> {
+    Failed,
+    Is(Option<W>),
+}
+
+// A log of that name, begun anew. A name that is not UTF-8 is of no file that can be written.
+fn create<R: Files>(rt: &R, name: &[u8]) -> Log<R::File> {
+    let Ok(path) = str::from_utf8(name) else {
+        return Log::Failed;
+    };
+    match fs::create(rt, path) {
+        Ok(file) => Log::Is(Some(file)),
+        Err(_) => Log::Failed,
+    }
+}
+
 // The log, begun anew.
-pub(crate) fn open_log() -> i32 {
+pub(crate) fn open_log<R: Env + Files>(rt: &R) -> Log<R::File> {
     let mut name = [0u8; 4096];
-    let size = os::arg(LOG, &mut name);
-    let too_long = os::errno() == libc::ENAMETOOLONG;
-    if too_long {
-        return FAILED;
+    match rt.arg(LOG, &mut name) {
+        Ok(0) => Log::Is(None),
+        Ok(size) => create(rt, part::between(&name, 0, size)),
+        Err(FillError::TooLong) => Log::Failed,
+        Err(FillError::NotPresent) => Log::Is(None),
     }
-    if size == 0 {
-        return NONE;
-    }
-    let fd = os::open_overwrite(part::between(&name, 0, size));
-    if fd < 0 {
-        return FAILED;
-    }
-    fd
 }
 
 // Puts a text into the log, if there is one.
-pub(crate) fn keep(log: i32, text: &[u8]) -> bool {
-    if log == NONE {
-        return true;
+pub(crate) fn keep<W: Write>(log: &mut Option<W>, text: &[u8]) -> bool {
+    match log {
+        Some(file) => file.write_all(text).is_ok(),
+        None => true,
     }
-    io::write_all(log, text)
 }

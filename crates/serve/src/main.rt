@@ -8,8 +8,12 @@ mod files;
 mod stream;
 
 use end::End;
+use files::Log;
 use rules::{Call, Chip, Flash, Options};
 use standin::call::{off, power_on};
+use std::env::Env;
+use std::io::{Input, Read, Write};
+use std::rt::Files;
 use text_script::chip_file::{ChipFile, Stated, lent};
 
 // Room for the flashes of the larger chip.
@@ -18,7 +22,14 @@ const CODE_ROOM: usize = 131072;
 const DATA_ROOM: usize = 8192;
 
 // Power-on, and the bytes of the stream. A chip that is not known is refused here, before a byte is read.
-fn session(chip: Chip, o: Options, log: i32, code: &mut [u8], data: &mut [u8]) -> End {
+fn session<I: Read, W: Write>(
+    chip: Chip,
+    o: Options,
+    input: &mut I,
+    log: &mut Option<W>,
+    code: &mut [u8],
+    data: &mut [u8],
+) -> End {
     let powered = power_on(off(chip), o, &*code, &*data);
     let call = powered.call;
     if let Call::Refused(refusal) = call {
@@ -27,27 +38,33 @@ fn session(chip: Chip, o: Options, log: i32, code: &mut [u8], data: &mut [u8]) -
     if !files::keep(log, b"!\n") {
         return End::NoLog;
     }
-    stream::serve_all(powered.device, log, code, data)
+    stream::serve_all(powered.device, input, log, code, data)
 }
 
 // The session has the chip's own part of the flashes.
-fn run(s: Stated, code: &mut [u8], data: &mut [u8]) -> End {
+fn run<R: Env + Files + Input>(rt: &R, s: Stated, code: &mut [u8], data: &mut [u8]) -> End {
     let chip = s.chip;
     let o = s.options;
     let m = lent(chip, Flash::Code, code.len());
     let n = lent(chip, Flash::Data, data.len());
-    let log = files::open_log();
-    if log == files::FAILED {
-        return End::NoLog;
+    match files::open_log(rt) {
+        Log::Failed => End::NoLog,
+        Log::Is(mut log) => session(
+            chip,
+            o,
+            &mut rt.reader(),
+            &mut log,
+            &mut code[0..m],
+            &mut data[0..n],
+        ),
     }
-    session(chip, o, log, &mut code[0..m], &mut data[0..n])
 }
 
-fn main() {
+fn main(rt: HostRuntime) {
     let mut code = [0u8; CODE_ROOM];
     let mut data = [0u8; DATA_ROOM];
-    match files::read_chip(&mut code, &mut data) {
-        ChipFile::States(s) => end::tell(run(s, &mut code, &mut data)),
+    match files::read_chip(&rt, &mut code, &mut data) {
+        ChipFile::States(s) => end::tell(run(&rt, s, &mut code, &mut data)),
         ChipFile::BadLine(number) => end::no_chip(number),
     }
 }

@@ -3,6 +3,7 @@ use crate::end::End;
 use crate::files;
 use rules::Call;
 use standin::call::Device;
+use std::io::{Read, Write};
 use text_read::part;
 use text_serve::log::put_turn;
 use text_serve::serve;
@@ -31,7 +32,7 @@ fn size_of(call: Call) -> usize {
 }
 
 // A turn is kept in the log, if there is one; and then its answer is written.
-fn told(log: i32, sent: &[u8], answer: &[u8]) -> End {
+fn told<W: Write>(log: &mut Option<W>, sent: &[u8], answer: &[u8]) -> End {
     let mut text = [0u8; ROOM];
     let size = put_turn(&mut text, sent, answer);
     if !files::keep(log, part::between(&text, 0, size)) {
@@ -51,7 +52,13 @@ fn is_well(how: End) -> bool {
 }
 
 // What a read took, turn by turn.
-fn serve_read(d: Device, bytes: &[u8], log: i32, code: &mut [u8], data: &mut [u8]) -> After {
+fn serve_read<W: Write>(
+    d: Device,
+    bytes: &[u8],
+    log: &mut Option<W>,
+    code: &mut [u8],
+    data: &mut [u8],
+) -> After {
     let mut device = d;
     let mut reply = [0u8; 16];
     let mut at: usize = 0;
@@ -78,16 +85,20 @@ fn serve_read(d: Device, bytes: &[u8], log: i32, code: &mut [u8], data: &mut [u8
 }
 
 // Read after read, until the input ends.
-pub(crate) fn serve_all(d: Device, log: i32, code: &mut [u8], data: &mut [u8]) -> End {
+pub(crate) fn serve_all<I: Read, W: Write>(
+    d: Device,
+    input: &mut I,
+    log: &mut Option<W>,
+    code: &mut [u8],
+    data: &mut [u8],
+) -> End {
     let mut device = d;
     let mut bytes = [0u8; READ];
     let mut taken: u64 = 0;
     while taken < MOST {
-        let got = libc::read(0, &mut bytes);
-        if got < 0 {
+        let Ok(n) = input.read(&mut bytes) else {
             return End::NoInput;
-        }
-        let n = io::count(got, &bytes);
+        };
         if n == 0 {
             return End::Well;
         }

@@ -15,10 +15,10 @@ fn room() -> [u8; 65541]
     [0; 65541]
 }
 
-fn main() {
+fn main(rt: HostRuntime) {
     let mut sheet = room();
     let mut text = [0u8; text_show::ROOM];
-    match text_input::read(&mut sheet) {
+    match text_input::read(&rt, &mut sheet) {
         Input::Read(n) => {
             let size = tell(part::between(&sheet, 0, n), &mut text);
             io::write_all(1, part::between(&text, 0, size));

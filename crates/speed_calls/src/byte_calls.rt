@@ -71,8 +71,8 @@ pub fn each_byte(
     sum
 }
 
-#[unsafe(no_mangle)]
-pub extern "C" fn rattle_engine(
+// The same, as it is measured.
+pub fn rattle_engine(
     bytes: &[u8],
     start: usize,
     shown: usize,

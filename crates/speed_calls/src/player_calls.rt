@@ -99,8 +99,7 @@ fn call_once(
 }
 
 // `calls` calls; a new play begins after each `again` of them. Of each frame the first `shown` bytes go into the digest.
-#[unsafe(no_mangle)]
-pub extern "C" fn rattle_player(
+pub fn rattle_player(
     sheet: &[u8],
     replies: &[u8],
     calls: usize,

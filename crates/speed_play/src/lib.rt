@@ -1,4 +1,4 @@
-// The entry that measures a whole play. It stands alone in its archive, as a program that plays a sheet does.
+// What is measured of a whole play, through the entry of `speed_play_c`.
 #![tactic(auto)]
 
 use joined::Answer;
@@ -20,8 +20,7 @@ pub fn outcome(answer: Answer, p: Player, arrived: usize) -> usize {
 }
 
 // A new player plays the sheet to a fresh chip in phase Command.
-#[unsafe(no_mangle)]
-pub extern "C" fn rattle_play(
+pub fn rattle_play(
     sheet: &[u8],
     held: &mut [u8; 260],
     code: &mut [u8],

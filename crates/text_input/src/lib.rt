@@ -2,6 +2,12 @@
 
 #![tactic(auto)]
 
+ghost use Rattle.text_input.specs.Reading.{ReadsToEnd};
+
+use std::io::Read;
+use std::rt::Files;
+use std::{fs, io};
+
 // How many bytes were read, or that a read failed.
 #[derive(Clone, Copy)]
 pub enum Input {
@@ -9,24 +15,34 @@ pub enum Input {
     Failed,
 }
 
-// Reads what that descriptor stands for until it ends or the buffer is full.
-pub fn read_from(fd: i32, buffer: &mut [u8]) -> Input {
+// Reads until the reader ends or the buffer is full.
+pub fn read_from<R: Read>(reader: &mut R, buffer: &mut [u8]) -> Input
+    ensures { ReadsToEnd (R.remaining reader.old) (R.remaining reader.new) result buffer.new }
+{
     let mut done = 0;
     while done < buffer.len() {
-        let got = libc::read(fd, &mut buffer[done..]);
-        if got < 0 {
-            return Input::Failed;
+        match reader.read(&mut buffer[done..]) {
+            Ok(0) => return Input::Read(done),
+            Ok(n) => done += n,
+            Err(_) => return Input::Failed,
         }
-        let n = io::count(got, &buffer[done..]);
-        if n == 0 {
-            return Input::Read(done);
-        }
-        done += n;
     }
     Input::Read(done)
 }
 
+// The file of that name. A name that is not UTF-8 is of no file that can be read.
+pub fn read_file<R: Files>(rt: &R, name: &[u8], buffer: &mut [u8]) -> Input {
+    let Ok(path) = str::from_utf8(name) else {
+        return Input::Failed;
+    };
+    match fs::open(rt, path) {
+        Ok(mut file) => read_from(&mut file, buffer),
+        Err(_) => Input::Failed,
+    }
+}
+
 // Standard input.
-pub fn read(buffer: &mut [u8]) -> Input {
-    read_from(libc::STDIN_FILENO, buffer)
+pub fn read<R: io::Input>(rt: &R, buffer: &mut [u8]) -> Input {
+    let mut reader = rt.reader();
+    read_from(&mut reader, buffer)
 }

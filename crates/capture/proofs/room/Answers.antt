@@ -1,0 +1,8 @@
+-- `capture::room` meets its contract: by a law, since so long a list is not counted out.
+use mathlib.Core.Path.{sym}
+use Prim.Native.Nat.{ℕ}
+use lib.ListN.{length-replicate}
+use Rattle.capture.proofs.room.Goals as goal
+
+pub returns : goal.returns
+returns c = sym (length-replicate {A = ℕ} 4194305 0)

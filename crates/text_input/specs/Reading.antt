@@ -1,0 +1,11 @@
+-- What reading to the end leaves.
+use Rattle.std.specs.Prelude.{ℕ, ◌<◌, ◌≤◌, List, length, take, ⊤}
+use Rattle.std.specs.Io.KnownBytes.{Consumes, IsAtEnd}
+use Rattle.std.specs.declared.option.Option.{Option}
+use Rattle.text_input.specs.declared.Input.{Input}
+use Rattle.text_input.specs.declared.Input.TheVariants.{Read, Failed}
+
+-- of a reader whose bytes are known: the first n of the buffer are those that it gave, and none is left where the buffer has room
+abbrev pub ReadsToEnd : Option (List ℕ) → Option (List ℕ) → Input → List ℕ → Type 0
+ReadsToEnd old new (Read n) buffer = (n ≤ length buffer) × Consumes old new (take n buffer) × (n < length buffer → IsAtEnd new)
+ReadsToEnd old new Failed buffer = ⊤

@@ -87,6 +87,11 @@ readable() { # NAME
     [ -r "$1" ] || cannot "not to be read by you: $1"
 }
 
+# A program names a file by a text, in UTF-8. A file of another name is opened by the command, and goes by its descriptor.
+is_text() { # NAME
+    printf '%s' "$1" | iconv -f UTF-8 -t UTF-8 >/dev/null 2>&1
+}
+
 input_from() { # [NAME]
     [ "${1--}" != - ] || return 0
     readable "$1"

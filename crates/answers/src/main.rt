@@ -8,6 +8,7 @@ use std::env::{Env, FillError};
 use text_lines::lines;
 use text_read::part;
 
+// stays: `is_ok` would say none of an argument that is longer than the buffer.
 // Whether there is an argument, whatever it is.
 fn has_argument<R: Env>(rt: &R) -> bool {
     let mut word = [0u8; 1];
@@ -18,6 +19,7 @@ fn has_argument<R: Env>(rt: &R) -> bool {
     }
 }
 
+// stays: `main` of `frames` reads its script so too; one function for both would be public, and no contract can say what standard input gives.
 fn main(rt: HostRuntime) {
     let rig = has_argument(&rt);
     if rig {

@@ -1,11 +1,10 @@
 // A whole script: its lines one after the other, up to its end or the first bad one.
-use rules::{Call, Chip, Flash};
+use rules::{Chip, Flash};
 use standin::call::Device;
 use text_lines::lines::{bad_line, room_for_bytes};
 use text_lines::told;
 use text_play::told::play_told;
 use text_read::in_hand::InHand;
-use text_read::line::line_end;
 use text_read::{in_hand, part};
 use text_script::chip_file::lent;
 use text_script::script_line::Line;
@@ -17,13 +16,6 @@ use text_script::{handed, script_line, send, session, show};
 struct Between {
     session: Session,
     sheet: InHand,
-}
-
-fn is_bad(said: Line) -> bool {
-    match said {
-        Line::Bad => true,
-        _ => false,
-    }
 }
 
 // The bytes of a row stored, and the power off.
@@ -38,8 +30,7 @@ fn store(s: Session, f: Flash, at: usize, row: &[u8], code: &mut [u8], data: &mu
 fn power_on(s: Session, code: &[u8], data: &[u8]) -> Session {
     io::write_all(1, b"!\n");
     let powered = session::power_on(s, code, data);
-    let call = powered.call;
-    if let Call::Refused(refusal) = call {
+    if let Err(refusal) = powered.call {
         told::refused(refusal);
     }
     powered.session
@@ -66,7 +57,7 @@ fn play(s: Session, sheet: &[u8], code: &mut [u8], data: &mut [u8]) -> Session {
     }
 }
 
-// What a line does to the chip as it stands; one of a sheet, and a bad one, do nothing.
+// What a line does to the chip as it stands; one of a sheet does nothing.
 fn act(
     said: Line,
     rig: bool,
@@ -77,7 +68,6 @@ fn act(
     data: &mut [u8],
 ) -> Session {
     match said {
-        Line::Bad => s,
         Line::OfChip(_) => s,
         Line::Stored(o) => session::off(s, o),
         Line::Store(f, at) => store(s, f, at, part::rest(text, script_line::STORED), code, data),
@@ -130,7 +120,7 @@ fn run(
 }
 
 // What a line says, with so much room for the flashes.
-fn said_by(line: &[u8], b: Between, code: usize, data: usize) -> Line {
+fn said_by(line: &[u8], b: Between, code: usize, data: usize) -> Option<Line> {
     let s = b.session;
     let d = s.device;
     script_line::parse(
@@ -140,7 +130,7 @@ fn said_by(line: &[u8], b: Between, code: usize, data: usize) -> Line {
     )
 }
 
-// The lines of a script; the number of the bad one that ended it, or 0.
+// The lines of a script; the number of the bad one that ended it, if one did. One without its LF is bad.
 fn lines(
     rig: bool,
     chip: Chip,
@@ -148,28 +138,21 @@ fn lines(
     sheet: &mut [u8],
     code: &mut [u8],
     data: &mut [u8],
-) -> usize {
+) -> Option<usize> {
     let mut b = Between {
         session: session::fresh(chip, code, data),
         sheet: in_hand::empty(),
     };
-    let mut at: usize = 0;
-    let mut number: usize = 0;
-    while at < text.len() {
-        number += 1;
-        let end = line_end(text, at);
-        if end >= text.len() {
-            return number;
-        }
-        let line = part::between(text, at, end);
-        let said = said_by(line, b, code.len(), data.len());
-        if is_bad(said) {
-            return number;
-        }
+    for (k, ended) in text.split_inclusive(|&byte| byte == b'\n').enumerate() {
+        let Some((b'\n', line)) = ended.split_last() else {
+            return Some(k + 1);
+        };
+        let Some(said) = said_by(line, b, code.len(), data.len()) else {
+            return Some(k + 1);
+        };
         b = run(said, rig, line, b, sheet, code, data);
-        at = end + 1;
     }
-    0
+    None
 }
 
 // Room for the flashes of the larger chip.

@@ -5,17 +5,17 @@
 ghost use Rattle.std.specs.Prelude.{◌≡◌, length};
 
 use rules::Flash;
-use rules::capture::CaptureVerdict;
+use rules::capture::CaptureFault;
 use std::env::{Env, FillError};
-use std::io::Input as Reads;
+use std::io::Input;
 use std::rt::Files;
 use text_capture::look_over;
 use text_capture::told::{ROOM, put_verdict};
-use text_input::Input;
+use text_input::Unread;
 use text_lines::lines;
 use text_read::part;
 use text_script::chip_file;
-use text_script::chip_file::{ChipFile, Stated, lent};
+use text_script::chip_file::{BadLine, Stated, lent};
 
 // The longest capture that is taken, and room for one byte more, by which a longer input is seen as such.
 const LONGEST: usize = 4194304;
@@ -31,30 +31,48 @@ const CODE_ROOM: usize = 131072;
 
 const DATA_ROOM: usize = 8192;
 
+// Why there is no chip: its file cannot be read, or that line of it states nothing.
+#[derive(Clone, Copy)]
+enum NoChip {
+    Unread,
+    BadLine(BadLine),
+}
+
+impl From<Unread> for NoChip {
+    fn from(_unread: Unread) -> NoChip {
+        NoChip::Unread
+    }
+}
+
+impl From<BadLine> for NoChip {
+    fn from(line: BadLine) -> NoChip {
+        NoChip::BadLine(line)
+    }
+}
+
 // The text of the chip file; where none is named, nothing.
-fn read_file<R: Env + Files>(rt: &R, buffer: &mut [u8]) -> Input {
+fn read_file<R: Env + Files>(rt: &R, buffer: &mut [u8]) -> Result<usize, Unread> {
     let mut name = [0u8; 4096];
     match rt.arg(1, &mut name) {
         Ok(size) => text_input::read_file(rt, part::between(&name, 0, size), buffer),
-        Err(FillError::TooLong) => Input::Failed,
-        Err(FillError::NotPresent) => Input::Read(0),
+        Err(FillError::TooLong) => Err(Unread),
+        Err(FillError::NotPresent) => Ok(0),
     }
 }
 
-// The chip that the file states; no chip where it cannot be read.
-fn read_chip<R: Env + Files>(rt: &R, code: &mut [u8], data: &mut [u8]) -> ChipFile {
+// What the file states.
+// stays: a twin of the one in the program `serve`, which takes an empty name as none: a shared function would be public, and no contract can say what a
+// file gives.
+fn read_chip<R: Env + Files>(rt: &R, code: &mut [u8], data: &mut [u8]) -> Result<Stated, NoChip> {
     let mut file = lines::room();
-    match read_file(rt, &mut file) {
-        Input::Read(n) => {
-            // a longer file ends within a line: its last byte is no LF
-            file[lines::LIMIT] = 0;
-            chip_file::read(part::between(&file, 0, n), code, data)
-        }
-        Input::Failed => ChipFile::BadLine(0),
-    }
+    let n = read_file(rt, &mut file)?;
+    // a longer file ends within a line: its last byte is no LF
+    file[lines::LIMIT] = 0;
+    let stated = chip_file::read(part::between(&file, 0, n), code, data)?;
+    Ok(stated)
 }
 
-fn tell(v: CaptureVerdict) {
+fn tell(v: Result<(), CaptureFault>) {
     let mut line = [0u8; ROOM];
     let size = put_verdict(&mut line, v);
     io::write_all(1, part::between(&line, 0, size));
@@ -71,38 +89,38 @@ fn look(s: Stated, text: &[u8], code: &mut [u8], data: &mut [u8]) {
     tell(v);
 }
 
-fn look_at_input<R: Reads>(rt: &R, s: Stated, code: &mut [u8], data: &mut [u8]) {
+fn look_at_input<R: Input>(rt: &R, s: Stated, code: &mut [u8], data: &mut [u8]) {
     let mut text = room();
-    match text_input::read(rt, &mut text) {
-        Input::Read(n) => {
-            if n > LONGEST {
-                io::write_all(2, b"capture: input over 4,194,304 bytes\n");
-                return;
-            }
-            look(s, part::between(&text, 0, n), code, data);
-        }
-        Input::Failed => {
-            io::write_all(2, b"capture: the input cannot be read\n");
-        }
-    }
-}
-
-// Says why there is no chip; 0 stands for a file that cannot be read.
-fn no_chip(number: usize) {
-    if number == 0 {
-        io::write_all(2, b"capture: CHIPFILE: cannot be read\n");
+    let Ok(n) = text_input::read(rt, &mut text) else {
+        io::write_all(2, b"capture: the input cannot be read\n");
+        return;
+    };
+    if n > LONGEST {
+        io::write_all(2, b"capture: input over 4,194,304 bytes\n");
         return;
     }
-    io::write_all(2, b"capture: CHIPFILE: bad line ");
-    io::print_decimal(2, number as u64);
-    io::write_all(2, b"\n");
+    look(s, part::between(&text, 0, n), code, data);
+}
+
+// Says why there is no chip.
+fn no_chip(why: NoChip) {
+    match why {
+        NoChip::Unread => {
+            io::write_all(2, b"capture: CHIPFILE: cannot be read\n");
+        }
+        NoChip::BadLine(line) => {
+            io::write_all(2, b"capture: CHIPFILE: bad line ");
+            io::print_decimal(2, line.0 as u64);
+            io::write_all(2, b"\n");
+        }
+    }
 }
 
 fn main(rt: HostRuntime) {
     let mut code = [0u8; CODE_ROOM];
     let mut data = [0u8; DATA_ROOM];
     match read_chip(&rt, &mut code, &mut data) {
-        ChipFile::States(s) => look_at_input(&rt, s, &mut code, &mut data),
-        ChipFile::BadLine(number) => no_chip(number),
+        Ok(s) => look_at_input(&rt, s, &mut code, &mut data),
+        Err(why) => no_chip(why),
     }
 }

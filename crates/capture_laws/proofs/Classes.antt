@@ -1,6 +1,6 @@
 -- What a judging comes to: all lines are good, or one is the first of bad form, or one is the first that is wrong. Assumes nothing.
-use mathlib.Core.Path.{◌≡◌, refl, sym, ap, ◌∙◌}
-use mathlib.Core.Bool.{Bool, true, false, cond}
+use mathlib.Core.Path.{◌≡◌, refl, ap, ◌∙◌}
+use mathlib.Core.Bool.{Bool, true, false}
 use mathlib.Core.Logic.{◌⊎◌, inl, inr}
 use mathlib.Core.List.{List, [], ◌∷◌}
 use Prim.Native.Nat.{ℕ, zero, suc, ◌+◌, ◌<◌, ◌≤◌}
@@ -8,9 +8,8 @@ use native.Mathlib.Nat.{le_of_suc-le-suc}
 use native.Mathlib.Omega.{arith}
 use lib.ListN.{length}
 use Rattle.rules.specs.declared.Chip.{Chip}
-use Rattle.rules.specs.declared.capture.CaptureVerdict.{CaptureVerdict}
-use Rattle.rules.specs.declared.capture.CaptureVerdict.TheVariants.{Accepted, Wrong, BadForm}
-use Rattle.rules.specs.Capture.{Heard, Looked, looked, is_line, fits, hears, judged}
+use Rattle.rules.specs.CaptureVerdicts.{CaptureVerdict, Accepted, Wrong, BadForm}
+use Rattle.rules.specs.Capture.{Heard, looked, is_line, fits, hears, judged}
 use Rattle.capture_laws.specs.Conditions.{line_at, chip_after}
 
 -- the tests at line i, behind n lines

@@ -1,14 +1,14 @@
 -- 02, M-111: a capture recorded from our chip is accepted, as specs/Recorded.antt states. Assumes nothing.
 use mathlib.Core.Path.{◌≡◌, refl, sym, ap, ◌∙◌}
-use mathlib.Core.Bool.{Bool, true, false, cond, not, ◌&&◌, ◌||◌}
+use mathlib.Core.Bool.{true}
 use mathlib.Core.List.{List, [], ◌∷◌}
-use Prim.Native.Nat.{ℕ, zero, suc, ◌+◌}
+use Prim.Native.Nat.{ℕ, suc}
 use native.Mathlib.Numerals.{add-one}
 use native.Mathlib.Omega.{arith}
 use lib.ListN.{length}
 use borrow.Author.Tests.{ne_eqb}
 use Rattle.rules.specs.declared.Chip.{Chip}
-use Rattle.rules.specs.declared.capture.CaptureVerdict.TheVariants.{Accepted}
+use Rattle.rules.specs.CaptureVerdicts.{Accepted}
 use Rattle.rules.specs.Chip.{same}
 use Rattle.rules.specs.Lines.{lines_of, is_row, row_bytes, values}
 use Rattle.rules.specs.StandIn.{State}

@@ -2,7 +2,7 @@
 use mathlib.Core.Path.{◌≡◌, refl, sym, ap, ◌∙◌}
 use mathlib.Core.Bool.{Bool, true, false}
 use mathlib.Core.Logic.{◌⊎◌, inl, inr}
-use mathlib.Core.List.{List, []}
+use mathlib.Core.List.{List}
 use Prim.Native.Nat.{ℕ, suc, ◌+◌, ◌<◌, ◌≤◌}
 use native.Mathlib.Omega.{arith}
 use lib.Dec.{ltb}
@@ -10,14 +10,13 @@ use lib.ListN.{length}
 use borrow.Author.Tests.{ltb-true, ltb-false}
 use Rattle.rules.specs.declared.Chip.{Chip}
 use Rattle.rules.specs.declared.Options.{Options}
-use Rattle.rules.specs.declared.Verdict.TheVariants as verdict
-use Rattle.rules.specs.declared.capture.CaptureVerdict.{CaptureVerdict}
-use Rattle.rules.specs.declared.capture.CaptureVerdict.TheVariants.{Accepted, Wrong, BadForm, Refused}
+use Rattle.rules.specs.Answers as verdict
+use Rattle.rules.specs.CaptureVerdicts.{CaptureVerdict, Accepted, Wrong, BadForm, Refused}
 use Rattle.rules.specs.Chip.{Memory}
 use Rattle.rules.specs.StandIn.{flash_verdict}
 use Rattle.rules.specs.Capture.{stated, Looked, looked, judged, captured, capture_line}
 use Rattle.text_capture.proofs.Judging.{captured_taken}
-use Rattle.capture_laws.specs.Conditions.{off, chip_after, Formed, Right, Exactly, lines, left, Good, GoodBefore, verdict_on, LeftBy, Judges, CaptureJudged}
+use Rattle.capture_laws.specs.Conditions.{off, chip_after, lines, left, Good, GoodBefore, verdict_on, LeftBy, Judges, CaptureJudged}
 use Rattle.capture_laws.proofs.Classes.{Passes, AllPass, BadFirst, WrongFirst, Class, classify}
 use Rattle.capture_laws.proofs.Lines.{formed, not_formed, right, not_right}
 

@@ -4,9 +4,8 @@ use Rattle.rules.specs.declared.Chip.{Chip}
 use Rattle.rules.specs.declared.Options.{Options}
 use Rattle.rules.specs.declared.Phase.TheVariants.{Silent}
 use Rattle.rules.specs.declared.Task.TheVariants.{Idle}
-use Rattle.rules.specs.declared.Verdict.TheVariants as verdict
-use Rattle.rules.specs.declared.capture.CaptureVerdict.{CaptureVerdict}
-use Rattle.rules.specs.declared.capture.CaptureVerdict.TheVariants.{Accepted, Wrong, BadForm}
+use Rattle.rules.specs.Answers as verdict
+use Rattle.rules.specs.CaptureVerdicts.{CaptureVerdict, Accepted, Wrong, BadForm}
 use Rattle.rules.specs.Chip.{Memory, byte_at}
 use Rattle.rules.specs.Lines.{lines_of, row_bytes}
 use Rattle.rules.specs.StandIn.{State, rest, flash_verdict}

@@ -2,8 +2,8 @@
 use Rattle.std.specs.Prelude.{ℕ, ◌≡◌, true, List, [], ◌∷◌, length}
 use Rattle.rules.specs.declared.Chip.{Chip}
 use Rattle.rules.specs.declared.Options.{Options}
-use Rattle.rules.specs.declared.Verdict.TheVariants as verdict
-use Rattle.rules.specs.declared.capture.CaptureVerdict.TheVariants.{Accepted}
+use Rattle.rules.specs.Answers as verdict
+use Rattle.rules.specs.CaptureVerdicts.{Accepted}
 use Rattle.rules.specs.Chip.{Memory}
 use Rattle.rules.specs.Lines.{lines_of, is_row, row_bytes}
 use Rattle.rules.specs.StandIn.{State, flash_verdict}

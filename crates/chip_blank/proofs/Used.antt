@@ -13,7 +13,7 @@ use borrow.Author.Tests.{eq-eqb, ne_eqb, lt-ltb, le-ltb, ltb-true, ltb-false}
 use Rattle.rules.specs.declared.Flash.{Flash}
 use Rattle.rules.specs.declared.Flash.TheVariants.{Code, Data}
 use Rattle.rules.specs.declared.Block.{Block}
-use Rattle.rules.specs.declared.Note.TheVariants.{Empty, Used}
+use Rattle.rules.specs.Notes.{Empty, Used}
 use Rattle.rules.specs.Chip.{blank_byte, blank, blanks_before, part_of, block_size, page_size, pages_per_block, block}
 use Rattle.rules.specs.Command.{used_from}
 use Rattle.rules.proofs.Choices.{picked}

@@ -10,11 +10,12 @@ use lib.Dec.{ltb, leb, eqb}
 use lib.ListN.{length, take, drop}
 use borrow.Author.Tests.{eq-eqb, ne_eqb, lt-ltb, le-ltb, le-leb, lt-leb, eqb-true, ltb-true, leb-true}
 use borrow.Rule.Slice.PartMut.{put_mid}
+use Rattle.rules.proofs.Answers.{pair_parts}
 use Rattle.rules.specs.declared.Chip.{Chip}
 use Rattle.rules.specs.declared.Flash.{Flash}
 use Rattle.rules.specs.declared.Block.{Block}
 use Rattle.rules.specs.Chip.{Memory, block_size, blocks, flash_of, part_of, put_part, shown}
-use Rattle.chip_finder.specs.declared.Place.TheVariants.{Bytes, Missing}
+use Rattle.chip_finder.specs.Answers.{Bytes, Missing}
 use Rattle.chip_finder.specs.LentFlashes.{range_shown}
 use Rattle.chip_finder.specs.OneFlash.{is_there, are_there, place_of, parts_shown}
 use Rattle.rules.proofs.Choices.{both, picked, passed, nested}
@@ -71,8 +72,9 @@ module _ (len size count first last : ℕ) where
       let w = eqb-true len (count * size) r.0 in
       let b = ltb-true last count r.1 in
       let o = leb-true first last q.1 in
-      let x : at ≡ first * size = cc p.1 in
-      let y : end ≡ (last + 1) * size = cc p.1 in
+      let e = pair_parts (first * size) at ((last + 1) * size) end p.1 in
+      let x : at ≡ first * size = sym e.0 in
+      let y : end ≡ (last + 1) * size = sym e.1 in
       let f = fit size o b in
       record { whole = w; below = b; order = o; begin = x; stop = y; forward = omega arith; room = omega arith }
 

@@ -1,6 +1,8 @@
 -- Laws of addresses, over a flash's start, block size and number of blocks: the byte that an address names. Assumes nothing.
-use mathlib.Core.Path.{◌≡◌}
-use mathlib.Core.Bool.{Bool, true, false, ◌&&◌}
+use mathlib.Core.Path.{◌≡◌, refl}
+use mathlib.Core.Bool.{Bool, true, false, cond, ◌&&◌}
+use Rattle.std.specs.Prelude.{Option, Some, None}
+use Rattle.std.specs.Option.{MatchOption, option_or}
 use Prim.Native.Nat.{ℕ, ◌+◌, ◌-◌, ◌*◌, ◌/◌, ◌%◌, ◌<◌, ◌≤◌}
 use native.Mathlib.Nat.{div-lt_iff_lt-mul, mul-le-mul, le_of_lt}
 use native.Mathlib.Omega.{arith}
@@ -11,10 +13,10 @@ use Rattle.rules.specs.declared.Flash.{Flash}
 use Rattle.rules.specs.declared.Flash.TheVariants.{Code, Data}
 use Rattle.rules.specs.declared.Address.{Address}
 use Rattle.rules.specs.declared.Block.{Block}
-use Rattle.rules.specs.declared.Found.TheVariants.{In, Nowhere}
-use Rattle.rules.specs.declared.Range.TheVariants.{Blocks, Invalid}
+use Rattle.rules.proofs.Answers.{pair_parts}
+use Rattle.rules.specs.Answers.{In, Nowhere, Blocks, Invalid}
 use Rattle.rules.specs.Chip.{block, start, block_size, within, block_at, begins, ends, first_in, pair_in, erase_address, range}
-use Rattle.chip_finder.specs.declared.Spot.TheVariants.{At, Outside}
+use Rattle.chip_finder.specs.Answers.{At, Outside}
 use Rattle.chip_finder.specs.OneFlash.{spot_in, byte_in, pair_of}
 use Rattle.rules.proofs.Choices.{none_left, none_right, all_five, picked, passed, first_found, first_left}
 
@@ -61,7 +63,8 @@ module _ (from size count a : ℕ) where
   spotted b o e =
       let x = At (block ((a - from) / size)) ((a - from) % size) in
       let p = picked (lies from size count a) x Outside (At b o) e (at_there b o) in
-      record { within = p.0; block = cc p.1; offset = cc p.1 }
+      let q = pair_parts (block ((a - from) / size)) b ((a - from) % size) o p.1 in
+      record { within = p.0; block = q.0; offset = q.1 }
 
   pub outside : spot_in from size count a ≡ Outside → lies from size count a ≡ false
   unfolding spot_in
@@ -83,7 +86,8 @@ module _ (chip : Chip) (f : Flash) where
   unfolding byte_in
   byte_found o a g b e =
       let p = picked (within chip f a && eqb ((a.0 - start f) % block_size f) o) (In f (block_at f a)) Nowhere (In g b) e (in_there g b) in
-      (p.0, cc p.1, cc p.1)
+      let q = pair_parts f g (block_at f a) b p.1 in
+      (p.0, q.0, q.1)
 
   pub byte_none : (o : ℕ) (a : Address) → byte_in chip f o a ≡ Nowhere
       → (within chip f a && eqb ((a.0 - start f) % block_size f) o) ≡ false
@@ -116,6 +120,24 @@ module _ (chip : Chip) (f : Flash) where
         rw (t, x.2, y.2)
 
 -- ---- both flashes: what code flash has stands first, and what it has not is data flash's ----
+
+-- a call of `or_else`, where the other answer is b
+pub or_else_is : {X : Type 0} (a b r : Option X) {P : Type 0} → MatchOption a P (λ x. r ≡ Some x) → (P → r ≡ b) → r ≡ option_or a b
+or_else_is None b r m k = k m
+or_else_is (Some x) b r m k = m
+
+-- a test and then another answer
+or_cond : {X : Type 0} (t : Bool) (y : X) (x : Option X) → option_or (cond t (Some y) None) x ≡ cond t (Some y) x
+or_cond true y x = refl
+or_cond false y x = refl
+
+pub erase_either : (chip : Chip) (a : Address) → option_or (byte_in chip Code 0 a) (byte_in chip Data 0 a) ≡ erase_address chip a
+unfolding erase_address byte_in
+erase_either chip a = or_cond (first_in chip Code a) (Code, block_at Code a) (byte_in chip Data 0 a)
+
+pub range_either : (chip : Chip) (sad ead : Address) → option_or (pair_of chip Code sad ead) (pair_of chip Data sad ead) ≡ range chip sad ead
+unfolding range pair_of
+range_either chip sad ead = or_cond (pair_in chip Code sad ead) (Code, block_at Code sad, block_at Code ead) (pair_of chip Data sad ead)
 
 module _ (chip : Chip) (a : Address) where
   pub erase_code_lem : (g : Flash) (b : Block) → byte_in chip Code 0 a ≡ In g b → In g b ≡ erase_address chip a

@@ -13,10 +13,10 @@ use Rattle.rules.specs.declared.Flash.{Flash}
 use Rattle.rules.specs.declared.Flash.TheVariants.{Code, Data}
 use Rattle.rules.specs.declared.Address.{Address}
 use Rattle.rules.specs.declared.Block.{Block}
-use Rattle.rules.specs.declared.Found.TheVariants.{In, Nowhere}
-use Rattle.rules.specs.declared.Range.TheVariants.{Blocks, Invalid}
+use Rattle.rules.proofs.Answers.{triple_parts}
+use Rattle.rules.specs.Answers.{In, Nowhere, Blocks, Invalid}
 use Rattle.rules.specs.Chip.{block, start, block_size, blocks, flash_size, first_byte, last_byte, within, block_at, begins, ends, first_in, pair_in, erase_address, range}
-use Rattle.chip_finder.specs.declared.Spot.TheVariants.{At}
+use Rattle.chip_finder.specs.Answers.{At}
 use Rattle.chip_finder.specs.OneFlash.{spot_in, byte_in, pair_of}
 use Rattle.rules.proofs.Choices.{both, each_of_five, picked, split}
 use Rattle.chip_finder.proofs.Geometry.{size_bounds}
@@ -95,10 +95,8 @@ module _ (chip : Chip) (f : Flash) where
   pair_inside sad ead g a b e =
       let p = picked (pair_in chip f sad ead) (Blocks f (block_at f sad) (block_at f ead)) Invalid (Blocks g a b) e (blocks_there g a b) in
       let q = each_of_five (leb sad.0 ead.0) (within chip f sad) (within chip f ead) (begins f sad) (ends f ead) p.0 in
-      let x : f ≡ g = cc p.1 in
-      let y : block_at f sad ≡ a = cc p.1 in
-      let z : block_at f ead ≡ b = cc p.1 in
-      rw (← x, ← y, ← z) (blocks_order sad ead (leb-true sad.0 ead.0 q.0), block_inside ead q.2)
+      let w = triple_parts f g (block_at f sad) a (block_at f ead) b p.1 in
+      rw (← w.0, ← w.1, ← w.2) (blocks_order sad ead (leb-true sad.0 ead.0 q.0), block_inside ead q.2)
 
 erase_split : (chip : Chip) (a : Address) → (erase_address chip a ≡ byte_in chip Code 0 a) ⊎ (erase_address chip a ≡ byte_in chip Data 0 a)
 unfolding erase_address byte_in
@@ -131,14 +129,12 @@ unfolding pair_of
 pair_back chip f sad ead g a b e =
     let p = picked (pair_in chip f sad ead) (Blocks f (block_at f sad) (block_at f ead)) Invalid (Blocks g a b) e (blocks_there g a b) in
     let q = each_of_five (leb sad.0 ead.0) (within chip f sad) (within chip f ead) (begins f sad) (ends f ead) p.0 in
-    let x : f ≡ g = cc p.1 in
-    let y : block_at f sad ≡ a = cc p.1 in
-    let z : block_at f ead ≡ b = cc p.1 in
+    let w = triple_parts f g (block_at f sad) a (block_at f ead) b p.1 in
     let l = from sad q.1 in
     let u = from ead q.2 in
     let low = byte_back f sad 0 l (eqb-true ((sad.0 - start f) % block_size f) 0 q.3) in
     let high = byte_back f ead (block_size f - 1) u (eqb-true ((ead.0 - start f) % block_size f) (block_size f - 1) q.4) in
-    rw (← x, ← y, ← z)
+    rw (← w.0, ← w.1, ← w.2)
     (ap address (low ∙ add-zero (start f + (block_at f sad).0 * block_size f)), ap address high)
   where
     address : ℕ → Address

@@ -3,8 +3,7 @@
 use Rattle.std.specs.Prelude.{cond, ltb}
 use Rattle.rules.specs.declared.Flash.TheVariants.{Code, Data}
 use Rattle.rules.specs.declared.Address.{Address}
-use Rattle.rules.specs.declared.Range.{Range}
-use Rattle.rules.specs.declared.Range.TheVariants.{Invalid}
+use Rattle.rules.specs.Answers.{Range, Invalid}
 use Rattle.rules.specs.Chip.{start}
 use Rattle.chip_finder.specs.OneFlash.{held_in}
 

@@ -1,3 +1,4 @@
+pub mod Answers
 pub mod LentFlashes
 pub mod OneFlash
 pub mod Held

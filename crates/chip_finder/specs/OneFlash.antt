@@ -3,14 +3,8 @@ use Rattle.std.specs.Prelude.{ℕ, ◌+◌, ◌-◌, ◌*◌, ◌/◌, ◌%◌, 
 use Rattle.rules.specs.declared.Chip.{Chip}
 use Rattle.rules.specs.declared.Flash.{Flash}
 use Rattle.rules.specs.declared.Address.{Address}
-use Rattle.rules.specs.declared.Found.{Found}
-use Rattle.rules.specs.declared.Found.TheVariants.{In, Nowhere}
-use Rattle.rules.specs.declared.Range.{Range}
-use Rattle.rules.specs.declared.Range.TheVariants.{Blocks, Invalid}
-use Rattle.chip_finder.specs.declared.Spot.{Spot}
-use Rattle.chip_finder.specs.declared.Spot.TheVariants.{At, Outside}
-use Rattle.chip_finder.specs.declared.Place.{Place}
-use Rattle.chip_finder.specs.declared.Place.TheVariants.{Bytes, Missing}
+use Rattle.rules.specs.Answers.{Found, In, Nowhere, Range, Blocks, Invalid}
+use Rattle.chip_finder.specs.Answers.{Spot, At, Outside, Place, Bytes, Missing}
 use Rattle.rules.specs.Chip.{block, block_size, start, blocks, within, block_at, pair_in}
 
 -- the byte with address a, in a flash of so many blocks of that size

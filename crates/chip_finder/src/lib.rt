@@ -2,17 +2,18 @@
 // gets its place in a lent flash. Each rule is said once, over the start, the size and the number of parts.
 #![tactic(auto)]
 
-ghost use Rattle.std.specs.Prelude.{◌≡◌, ◌+◌, ◌-◌, ◌*◌, ◌<◌, ◌≤◌, eqb, length};
+ghost use Rattle.std.specs.Prelude.{Some, ◌≡◌, ◌+◌, ◌-◌, ◌*◌, ◌<◌, ◌≤◌, eqb, length};
 ghost use Rattle.rules.specs.Chip.{same_counts, known, block_size, start, blocks, flash_size, pages_per_block, page_size, pages, flash_of, first_byte, last_byte, erase_address, range, nowhere, invalid, shown, block_shown, page_shown};
 ghost use Rattle.chip_finder.specs.LentFlashes.{memory, range_shown};
 ghost use Rattle.chip_finder.specs.OneFlash.{spot_in, spot_of, byte_in, pair_of, held_in, place_of, parts_shown};
 ghost use Rattle.chip_finder.specs.Held.{blocks_held};
 
-use rules::{Address, Block, Chip, Flash, Found, Range};
+use rules::{Address, Block, Chip, Flash};
 
 // The bytes of a page.
 pub const PAGE_SIZE: usize = 256;
 
+// stays: two functions, for the two chips that 01 and 02 name; a number of a chip would have to be refused.
 // The two chips that are known.
 pub fn small() -> Chip
     ensures { result ≡ Rattle.rules.specs.Chip.small }
@@ -34,6 +35,7 @@ fn both_counts(chip: Chip) -> u32
 }
 
 // Whether two chips have the same counts. They are compared at once: a chip stands in one register, and each byte that comes asks for it.
+// stays: no derived `==` here, which asks for one count after the other: 11 instructions a byte where the engine stays a call (docs/SPEED.md).
 pub fn same_counts(a: Chip, b: Chip) -> bool
     ensures { result ≡ same_counts a b }
 {
@@ -44,12 +46,10 @@ pub fn same_counts(a: Chip, b: Chip) -> bool
 pub fn is_known(chip: Chip) -> bool
     ensures { result ≡ known chip }
 {
-    if same_counts(chip, small()) {
-        return true;
-    }
-    same_counts(chip, large())
+    same_counts(chip, small()) || same_counts(chip, large())
 }
 
+// stays: this, `start_of` and `pages_per_block` are three facts of a flash, a number each by 01; a table of them would be read by number.
 pub fn block_size(f: Flash) -> usize
     ensures { result ≡ block_size f }
 {
@@ -124,162 +124,118 @@ fn last_offset(f: Flash) -> u32
 
 // ---- from an address to its block ----
 
-// A byte by its block and its offset in it, or no byte of the flash.
-#[derive(Clone, Copy)]
-enum Spot {
-    At(Block, u32),
-    Outside,
-}
-
-// The byte with that address, in a flash of `count` blocks of `size` bytes from `from` on.
-fn spot_in(from: u32, size: u32, count: u16, a: u32) -> Spot
+// The byte with that address, by its block and its offset in it, in a flash of `count` blocks of `size` bytes from `from` on.
+fn spot_in(from: u32, size: u32, count: u16, a: u32) -> Option<(Block, u32)>
     requires { (0 < size) × (size ≤ 2048) }
     ensures { result ≡ spot_in from size count a }
 {
-    if a < from {
-        return Spot::Outside;
-    }
-    let o = a - from;
+    let o = a.checked_sub(from)?;
     if o < count as u32 * size {
-        return Spot::At(Block((o / size) as u16), o % size);
+        return Some((Block((o / size) as u16), o % size));
     }
-    Spot::Outside
+    None
 }
 
-fn spot_of(chip: Chip, f: Flash, a: Address) -> Spot
+fn spot_of(chip: Chip, f: Flash, a: Address) -> Option<(Block, u32)>
     ensures { result ≡ spot_of chip f a }
 {
     spot_in(start_of(f), block_size(f) as u32, block_count(chip, f), a.0)
 }
 
 // The block of one flash whose byte at `offset` an address is.
-fn byte_in(chip: Chip, f: Flash, offset: u32, a: Address) -> Found
+fn byte_in(chip: Chip, f: Flash, offset: u32, a: Address) -> Option<(Flash, Block)>
     ensures { result ≡ byte_in chip f offset a }
 {
-    match spot_of(chip, f, a) {
-        Spot::At(b, o) => {
-            if o == offset {
-                return Found::In(f, b);
-            }
-            Found::Nowhere
-        }
-        Spot::Outside => Found::Nowhere,
-    }
+    let (b, o) = spot_of(chip, f, a)?;
+    (o == offset).then_some((f, b))
 }
 
 // The blocks of one flash that a pair of addresses names.
-fn pair_in(chip: Chip, f: Flash, sad: Address, ead: Address) -> Range
+fn pair_in(chip: Chip, f: Flash, sad: Address, ead: Address) -> Option<(Flash, Block, Block)>
     ensures { result ≡ pair_of chip f sad ead }
 {
     if ead.0 < sad.0 {
-        return Range::Invalid;
+        return None;
     }
-    let Found::In(_, first) = byte_in(chip, f, 0, sad) else {
-        return Range::Invalid;
-    };
-    let Found::In(_, last) = byte_in(chip, f, last_offset(f), ead) else {
-        return Range::Invalid;
-    };
-    Range::Blocks(f, first, last)
+    let (_, first) = byte_in(chip, f, 0, sad)?;
+    let (_, last) = byte_in(chip, f, last_offset(f), ead)?;
+    Some((f, first, last))
 }
 
 // The block whose first byte an address is.
-pub fn erase_address(chip: Chip, a: Address) -> Found
+pub fn erase_address(chip: Chip, a: Address) -> Option<(Flash, Block)>
     ensures { result ≡ erase_address chip a }
 {
-    match byte_in(chip, Flash::Code, 0, a) {
-        Found::In(f, b) => Found::In(f, b),
-        Found::Nowhere => byte_in(chip, Flash::Data, 0, a),
-    }
+    byte_in(chip, Flash::Code, 0, a).or_else(|| byte_in(chip, Flash::Data, 0, a))
 }
 
 // The blocks from the one that `sad` begins to the one that `ead` ends, where both lie in one flash.
-pub fn range(chip: Chip, sad: Address, ead: Address) -> Range
+pub fn range(chip: Chip, sad: Address, ead: Address) -> Option<(Flash, Block, Block)>
     ensures { result ≡ range chip sad ead }
 {
-    match pair_in(chip, Flash::Code, sad, ead) {
-        Range::Blocks(f, first, last) => Range::Blocks(f, first, last),
-        Range::Invalid => pair_in(chip, Flash::Data, sad, ead),
-    }
+    pair_in(chip, Flash::Code, sad, ead).or_else(|| pair_in(chip, Flash::Data, sad, ead))
 }
 
 // The blocks of one flash that two addresses behind its start lie in, as if it had no end.
-fn held_in(f: Flash, sad: Address, ead: Address) -> Range
+fn held_in(f: Flash, sad: Address, ead: Address) -> (Flash, Block, Block)
     requires { (start f ≤ sad.0) × (start f ≤ ead.0) × (sad.0 < 16777216) × (ead.0 < 16777216) }
-    ensures { result ≡ held_in f sad ead }
+    ensures { Some result ≡ held_in f sad ead }
 {
     let size = block_size(f) as u32;
     let from = start_of(f);
     let first = (sad.0 - from) / size;
     let last = (ead.0 - from) / size;
-    Range::Blocks(f, Block(first as u16), Block(last as u16))
+    (f, Block(first as u16), Block(last as u16))
 }
 
 // The blocks that two addresses of three bytes lie in: of a valid pair its range, found without judging the pair again.
-pub fn blocks_held(sad: Address, ead: Address) -> Range
+pub fn blocks_held(sad: Address, ead: Address) -> Option<(Flash, Block, Block)>
     ensures { result ≡ blocks_held sad ead }
 {
-    if ead.0 < sad.0 {
-        return Range::Invalid;
+    if ead.0 < sad.0 || 0xFFFFFF < ead.0 {
+        return None;
     }
-    if 0xFFFFFF < ead.0 {
-        return Range::Invalid;
+    if sad.0 < start_of(Flash::Data) {
+        return Some(held_in(Flash::Code, sad, ead));
     }
-    if sad.0 < 0xF1000 {
-        return held_in(Flash::Code, sad, ead);
-    }
-    held_in(Flash::Data, sad, ead)
+    Some(held_in(Flash::Data, sad, ead))
 }
 
 // There is no such block.
-pub fn is_nowhere(found: Found) -> bool
+pub fn is_nowhere(found: Option<(Flash, Block)>) -> bool
     ensures { result ≡ nowhere found }
 {
-    match found {
-        Found::In(_, _) => false,
-        Found::Nowhere => true,
-    }
+    found.is_none()
 }
 
 // An address pair that is not valid.
-pub fn is_invalid(range: Range) -> bool
+pub fn is_invalid(range: Option<(Flash, Block, Block)>) -> bool
     ensures { result ≡ invalid range }
 {
-    match range {
-        Range::Blocks(_, _, _) => false,
-        Range::Invalid => true,
-    }
+    range.is_none()
 }
 
 // ---- from a block or page to its part of a flash ----
 
-// Where parts lie in a flash: from and up to which byte, or not there.
-#[derive(Clone, Copy)]
-pub enum Place {
-    Bytes(usize, usize),
-    Missing,
-}
-
-// The place of the parts `first` to `last` in a flash of `len` bytes that is to have `count` parts of `size` bytes.
-fn place_of(len: usize, size: usize, count: usize, first: usize, last: usize) -> Place
+// The place of the parts `first` to `last`, from and up to which byte, in a flash of `len` bytes that is to have `count` parts of `size` bytes.
+fn place_of(
+    len: usize,
+    size: usize,
+    count: usize,
+    first: usize,
+    last: usize,
+) -> Option<(usize, usize)>
     requires { (size ≤ 2048) × (count ≤ 524288) }
     ensures { result ≡ place_of len size count first last }
 {
-    if len != count * size {
-        return Place::Missing;
+    if len != count * size || count <= last || last < first {
+        return None;
     }
-    if count <= last {
-        return Place::Missing;
-    }
-    if last < first {
-        return Place::Missing;
-    }
-    let end = last + 1;
-    Place::Bytes(first * size, end * size)
+    Some((first * size, (last + 1) * size))
 }
 
 // The place of a block, and of a page, in a flash of `len` bytes that is to be the chip's.
-pub fn block_place(chip: Chip, f: Flash, len: usize, b: Block) -> Place
+pub fn block_place(chip: Chip, f: Flash, len: usize, b: Block) -> Option<(usize, usize)>
     ensures { result ≡ place_of len (block_size f) (blocks chip f) b.0 b.0 }
 {
     let size = block_size(f);
@@ -288,7 +244,7 @@ pub fn block_place(chip: Chip, f: Flash, len: usize, b: Block) -> Place
     place_of(len, size, count, n, n)
 }
 
-pub fn page_place(chip: Chip, f: Flash, len: usize, k: usize) -> Place
+pub fn page_place(chip: Chip, f: Flash, len: usize, k: usize) -> Option<(usize, usize)>
     ensures { result ≡ place_of len page_size (pages chip f) k k }
 {
     let count = page_count(chip, f);
@@ -302,8 +258,8 @@ fn parts_of<'a>(flash: &'a [u8], size: usize, count: usize, first: usize, last: 
     ensures { result.now ≡ parts_shown size count first last flash.now }
 {
     match place_of(flash.len(), size, count, first, last) {
-        Place::Bytes(at, end) => &flash[at..end],
-        Place::Missing => &flash[0..0],
+        Some((at, end)) => &flash[at..end],
+        None => &flash[0..0],
     }
 }
 
@@ -316,6 +272,7 @@ fn part_of<'a>(flash: &'a [u8], size: usize, count: usize, n: usize) -> &'a [u8]
 }
 
 // One of the two flashes.
+// stays: a chip and its two flashes come apart here and below, as public functions that crates above call take them (`block_part`, `range_part`, `page_mut`).
 fn flash_of<'a>(code: &'a [u8], data: &'a [u8], f: Flash) -> &'a [u8]
     ensures { result.now ≡ flash_of (memory code.now «data».now) f }
 {
@@ -381,14 +338,15 @@ pub fn page_for_writing<'a>(part: &'a mut [u8]) -> &'a mut [u8]
     }
 }
 
+// stays: `parts_of` once more, for a loan to write through: a shared and a mutable slice are two types, and no one function gives both.
 // In the literal form, over both lent flashes: what is known of a lent flash after it is written through is said in docs/DECISIONS.md.
 fn part_of_mut<'a>(flash: &'a mut [u8], size: usize, count: usize, n: usize) -> &'a mut [u8]
     requires { (size ≤ 2048) × (count ≤ 524288) }
     ensures { result.now ≡ shown size count n flash.old }
 {
     match place_of(flash.len(), size, count, n, n) {
-        Place::Bytes(at, end) => &mut flash[at..end],
-        Place::Missing => &mut flash[0..0],
+        Some((at, end)) => &mut flash[at..end],
+        None => &mut flash[0..0],
     }
 }
 

@@ -14,7 +14,7 @@ use Rattle.rules.specs.declared.Pages.{Pages}
 use Rattle.rules.specs.Chip.{Memory, flash_of, with_flash, block_size, blocks, page_size, pages, blank, blank_byte, part_of, put_part, fits}
 use Rattle.rules.specs.First.{first}
 use Rattle.rules.specs.StandIn.{page_fault, page_written}
-use Rattle.chip_finder.specs.declared.Place.TheVariants.{Missing}
+use Rattle.chip_finder.specs.Answers.{Missing}
 use Rattle.chip_finder.specs.OneFlash.{is_there, place_of}
 use Rattle.chip_flash.specs.Writing.{wrote, erased_at, programmed, erased_part, Written, written, page_status, programmed_part}
 use Rattle.rules.proofs.Choices.{both}

@@ -1,10 +1,10 @@
 // A page written or left, and a page compared.
 ghost use Rattle.std.specs.Prelude.{◌≡◌, length, take, drop};
-ghost use Rattle.rules.specs.Chip.{same, page_size, pages, shown, page_shown};
+ghost use Rattle.rules.specs.Chip.{same, pages, page_shown};
 ghost use Rattle.chip_finder.specs.LentFlashes.{memory};
 ghost use Rattle.chip_flash.specs.Writing.{programmed, wrote, written, page_status, programmed_part};
 
-use chip_finder::{Place, page_for_writing, page_in, page_place};
+use chip_finder::{page_for_writing, page_part, page_place};
 use octets::{copy, is_blank, same_bytes};
 use rules::{Chip, Flash, Pages};
 
@@ -13,22 +13,21 @@ fn body_of<'a>(frame: &'a [u8; 260]) -> &'a [u8]
     ensures result_value { result.now ≡ take 256 (drop 2 frame.now) }
     ensures result_len { length result.now ≡ 256 }
 {
-    let whole: &[u8] = frame;
-    &whole[2..258]
+    &frame[2..258]
 }
 
 // The write status that a page gets: a guarded page is told as such, whatever it holds.
+// stays: a status byte and no Result, since the clause of `program_page` names the byte (`wrote`, `programmed`), which is sent as it is.
 fn page_status(guarded: bool, page: &[u8]) -> u8
     ensures { result ≡ page_status guarded page.now }
 {
-    let blank = is_blank(page);
     if guarded {
-        return 0x10;
+        0x10
+    } else if is_blank(page) {
+        0x06
+    } else {
+        0x1C
     }
-    if !blank {
-        return 0x1C;
-    }
-    0x06
 }
 
 // Page `k` of the one flash that is lent gets the body of a data frame, unless it is guarded or not blank; its write status.
@@ -42,7 +41,7 @@ fn program_in(
 ) -> u8
     ensures { written result flash.new ≡ programmed_part (pages chip f) k guarded (take 256 (drop 2 frame.now)) flash.old }
 {
-    let Place::Bytes(at, end) = page_place(chip, f, flash.len(), k) else {
+    let Some((at, end)) = page_place(chip, f, flash.len(), k) else {
         return 0x05;
     };
     let status = page_status(guarded, &flash[at..end]);
@@ -59,6 +58,7 @@ fn program_in(
 }
 
 // The page in hand gets the 256 bytes of a received data frame, unless it is guarded or not blank; its write status.
+// stays: a call for each flash, as in `erase_block` (tried there).
 pub fn program_page(
     chip: Chip,
     guarded: bool,
@@ -76,20 +76,9 @@ pub fn program_page(
     }
 }
 
-// Page `k` of the one flash that is lent holds the body of a data frame.
-fn equals_in(chip: Chip, f: Flash, flash: &[u8], k: usize, frame: &[u8; 260]) -> bool
-    ensures { result ≡ same (shown page_size (pages chip f) k flash.now) (take 256 (drop 2 frame.now)) }
-{
-    same_bytes(page_in(chip, f, flash, k), body_of(frame))
-}
-
 // The page in hand holds the 256 bytes of a received data frame.
 pub fn page_equals(chip: Chip, p: Pages, code: &[u8], data: &[u8], frame: &[u8; 260]) -> bool
     ensures { result ≡ same (page_shown chip (memory code.now «data».now) p.flash p.page) (take 256 (drop 2 frame.now)) }
 {
-    let f = p.flash;
-    match f {
-        Flash::Code => equals_in(chip, f, code, p.page, frame),
-        Flash::Data => equals_in(chip, f, data, p.page, frame),
-    }
+    same_bytes(page_part(chip, code, data, p.flash, p.page), body_of(frame))
 }

@@ -1,9 +1,9 @@
 -- A bit of a number made 0 or 1: the number stays below the same bound. Over the bit's weight and the bound. Assumes nothing.
-use Prim.Native.Nat.{ℕ, ◌+◌, ◌*◌, ◌/◌, ◌%◌, ◌<◌, ◌≤◌}
-use mathlib.Core.Path.{◌≡◌}
+use Prim.Native.Nat.{ℕ, ◌+◌, ◌*◌, ◌/◌, ◌%◌, ◌<◌, ◌≤◌, ◌^◌, zero, suc}
+use mathlib.Core.Path.{◌≡◌, refl}
 use native.Mathlib.Nat.{div-add-mod', div-lt_iff_lt-mul, mul-le-mul, mul-le-mul_right, suc-mul, mod-lt}
 use native.Mathlib.Omega.{arith}
-use Rattle.chip_options.specs.Bits.{with_bit_of}
+use Rattle.chip_options.specs.Bits.{Weight, with_bit_of}
 
 -- a bound that d divides leaves room for d above the multiple of d at or below n
 room : (N d n : ℕ) → 0 < d → N % d ≡ 0 → n < N → n / d * d + d ≤ N
@@ -22,3 +22,20 @@ pub and_below : (a b : ℕ) → a % 2 * (b % 2) < 2
 and_below a b =
     let most : a % 2 * (b % 2) ≤ 1 = mul-le-mul {n₂ = 1} {m₂ = 1} (omega arith) (omega arith) in
     omega arith
+
+-- the weight of a bit below 7, as a byte shifted
+abbrev Shifted : ℕ → Type 0
+Shifted k = (1 * 2 ^ k % 256 ≡ 2 ^ k) × Weight (2 ^ k) × (2 ^ (k + 1) ≡ 2 ^ k * 2)
+
+weighed : (w : ℕ) → 0 < w → w < 128 → 256 % (w * 2) ≡ 0 → Weight w
+weighed w p b e = record { positive = p; below = b; whole = e }
+
+pub shifted : (k : ℕ) → k < 7 → Shifted k
+shifted zero h = (refl, weighed 1 (omega arith) (omega arith) refl, refl)
+shifted (suc zero) h = (refl, weighed 2 (omega arith) (omega arith) refl, refl)
+shifted (suc (suc zero)) h = (refl, weighed 4 (omega arith) (omega arith) refl, refl)
+shifted (suc (suc (suc zero))) h = (refl, weighed 8 (omega arith) (omega arith) refl, refl)
+shifted (suc (suc (suc (suc zero)))) h = (refl, weighed 16 (omega arith) (omega arith) refl, refl)
+shifted (suc (suc (suc (suc (suc zero))))) h = (refl, weighed 32 (omega arith) (omega arith) refl, refl)
+shifted (suc (suc (suc (suc (suc (suc zero)))))) h = (refl, weighed 64 (omega arith) (omega arith) refl, refl)
+shifted (suc (suc (suc (suc (suc (suc (suc k))))))) h = absurd (omega arith)

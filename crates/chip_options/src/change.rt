@@ -1,24 +1,25 @@
 // The options changed: the named bits, as a command asks. Every other stored bit keeps its value.
 ghost use Rattle.std.specs.Prelude.{◌≡◌, ◌+◌, ◌*◌, ◌/◌, ◌<◌};
-ghost use Rattle.chip_options.specs.Bits.{Weight, bit_of, with_bit_of};
-ghost use Rattle.rules.specs.Options.{with_bit, security_set, release, window_set};
+ghost use Rattle.rules.specs.Options.{with_bit, and_bit, security_set, release, window_set};
 
+use crate::read::{bit, window_block, window_flag};
 use rules::{Block, Options};
 
-// A flag byte with its bit of that weight made `v`, between the bits above it and those below it as they were.
-fn with_bit(n: u8, weight: u8, v: u8) -> u8
-    requires { Weight weight × (v < 2) }
-    ensures { result ≡ with_bit_of weight v n }
+// A flag byte with its bit K made `v`, between the bits above it and those below it as they were.
+fn with_bit<const K: u32>(n: u8, v: u8) -> u8
+    requires { (K < 7) × (v < 2) }
+    ensures { result ≡ with_bit K v n }
 {
+    let weight: u8 = 1 << K;
     n / (weight * 2) * (weight * 2) + v * weight + n % weight
 }
 
-// A flag byte whose bit of that weight is the AND of old and sent.
-fn and_bit(old: u8, sent: u8, weight: u8) -> u8
-    requires { Weight weight }
-    ensures { result ≡ with_bit_of weight (bit_of weight old * bit_of weight sent) old }
+// A flag byte whose bit K is the AND of old and sent.
+fn and_bit<const K: u32>(old: u8, sent: u8) -> u8
+    requires { K < 7 }
+    ensures { result ≡ and_bit K sent old }
 {
-    with_bit(old, weight, old / weight % 2 * (sent / weight % 2))
+    with_bit::<K>(old, bit::<K>(old) * bit::<K>(sent))
 }
 
 // A window word with its block number (bits 8 to 0) and its flag (bit 15) anew: bits 14 to 9 have no name and stay.
@@ -34,10 +35,9 @@ pub fn security_set(o: Options, sf1: u8, sf2: u8) -> Options
     ensures { result ≡ security_set sf1 sf2 o }
 {
     Options {
-        sf1: and_bit(and_bit(and_bit(o.sf1, sf1, 2), sf1, 4), sf1, 16),
-        sf2: and_bit(and_bit(o.sf2, sf2, 1), sf2, 4),
-        sws: o.sws,
-        swe: o.swe,
+        sf1: and_bit::<4>(and_bit::<2>(and_bit::<1>(o.sf1, sf1), sf1), sf1),
+        sf2: and_bit::<2>(and_bit::<0>(o.sf2, sf2), sf2),
+        ..o
     }
 }
 
@@ -46,8 +46,8 @@ pub fn release(o: Options) -> Options
     ensures { result ≡ release o }
 {
     Options {
-        sf1: with_bit(with_bit(with_bit(o.sf1, 2, 1), 4, 1), 16, 1),
-        sf2: with_bit(with_bit(with_bit(o.sf2, 4, 1), 8, 1), 16, 1),
+        sf1: with_bit::<4>(with_bit::<2>(with_bit::<1>(o.sf1, 1), 1), 1),
+        sf2: with_bit::<4>(with_bit::<3>(with_bit::<2>(o.sf2, 1), 1), 1),
         sws: window_word(o.sws, Block(511), 1),
         swe: window_word(o.swe, Block(511), 1),
     }
@@ -58,9 +58,8 @@ pub fn window_set(o: Options, sws: u16, swe: u16) -> Options
     ensures { result ≡ window_set sws swe o }
 {
     Options {
-        sf1: o.sf1,
-        sf2: o.sf2,
-        sws: window_word(o.sws, Block(sws % 512), sws / 32768 % 2),
-        swe: window_word(o.swe, Block(swe % 512), swe / 32768 % 2),
+        sws: window_word(o.sws, window_block(sws), window_flag(sws)),
+        swe: window_word(o.swe, window_block(swe), window_flag(swe)),
+        ..o
     }
 }

@@ -17,10 +17,7 @@ const BOOT_PAGES: usize = 64;
 pub fn in_boot_cluster(f: Flash, b: Block) -> bool
     ensures { result ≡ in_boot_cluster f b }
 {
-    match f {
-        Flash::Code => b.0 < BOOT_BLOCKS,
-        Flash::Data => false,
-    }
+    f == Flash::Code && b.0 < BOOT_BLOCKS
 }
 
 // What a command names is protected when the flag of the command is 0 (SEPR to erase, WRPR to write), or BTPR is 0 and it lies in
@@ -28,15 +25,10 @@ pub fn in_boot_cluster(f: Flash, b: Block) -> bool
 fn protected(o: Options, flag: u8, boot: bool) -> bool
     ensures { result ≡ eqb flag 0 || (eqb (BTPR o) 0 && boot) }
 {
-    if flag == 0 {
-        return true;
-    }
-    if btpr(o) == 0 {
-        return boot;
-    }
-    false
+    flag == 0 || (btpr(o) == 0 && boot)
 }
 
+// stays: beside `page_protected`; each names its flag, and `protected` is what both have in common.
 pub fn erase_protected(o: Options, f: Flash, b: Block) -> bool
     ensures { result ≡ erase_protected o f b }
 {

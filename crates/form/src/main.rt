@@ -3,28 +3,24 @@
 // `put_refused` for every input.
 #![tactic(auto)]
 
-ghost use Rattle.std.specs.Prelude.{◌≡◌, length};
-
 use octets::same_bytes;
-use rules::{Moved, Refusal};
+use rules::Refusal;
 use sheet_moves::{move_down, move_up};
 use std::env::Env;
-use std::io::Input as Reads;
-use text_input::Input;
+use std::io::Input;
 use text_read::part;
 use text_told::lines::put_refused;
 
-// Room for the longest sheet of either form, and for one byte more, by which a longer input is seen as such.
-fn room() -> [u8; 65541]
-    ensures { 65541 ≡ length result }
-{
-    [0; 65541]
-}
+// The longest sheet of either form.
+const LONGEST: usize = 65540;
 
-fn moved_room() -> [u8; 65540]
-    ensures { 65540 ≡ length result }
-{
-    [0; 65540]
+// Room for it, and for one byte more, by which a longer input is seen as such.
+const ROOM: usize = 65541;
+
+#[derive(Clone, Copy)]
+enum Way {
+    Up,
+    Down,
 }
 
 // `form: refused J15`
@@ -35,52 +31,54 @@ fn tell(refusal: Refusal) {
     io::write_all(2, part::between(&line, 0, n));
 }
 
-fn moved(up: bool, sheet: &[u8], out: &mut [u8]) -> Moved {
-    if up {
-        return move_up(sheet, out);
+fn moved(way: Way, sheet: &[u8], out: &mut [u8]) -> Result<usize, Refusal> {
+    match way {
+        Way::Up => move_up(sheet, out),
+        Way::Down => move_down(sheet, out),
     }
-    move_down(sheet, out)
 }
 
-fn go(up: bool, sheet: &[u8]) {
-    let mut out = moved_room();
-    match moved(up, sheet, &mut out) {
-        Moved::Sheet(n) => {
+fn go(way: Way, sheet: &[u8]) {
+    let mut out = [0u8; LONGEST];
+    match moved(way, sheet, &mut out) {
+        Ok(n) => {
             io::write_all(1, part::between(&out, 0, n));
         }
-        Moved::Refused(refusal) => tell(refusal),
+        Err(refusal) => tell(refusal),
     }
 }
 
 // The sheet is read, and goes that way.
-fn read<R: Reads>(rt: &R, up: bool) {
-    let mut sheet = room();
-    match text_input::read(rt, &mut sheet) {
-        Input::Read(n) => go(up, part::between(&sheet, 0, n)),
-        Input::Failed => {
-            io::write_all(2, b"form: the input cannot be read\n");
-        }
-    }
+fn read<R: Input>(rt: &R, way: Way) {
+    let mut sheet = [0u8; ROOM];
+    let Ok(n) = text_input::read(rt, &mut sheet) else {
+        io::write_all(2, b"form: the input cannot be read\n");
+        return;
+    };
+    go(way, part::between(&sheet, 0, n));
 }
 
-// The length of the argument that was put into the buffer; 0 where there is none, or one that is longer.
-fn argument<R: Env>(rt: &R, word: &mut [u8]) -> usize {
-    match rt.arg(1, word) {
-        Ok(n) => n,
-        Err(_) => 0,
+fn way_named(word: &[u8]) -> Option<Way> {
+    if same_bytes(word, b"up") {
+        return Some(Way::Up);
     }
+    if same_bytes(word, b"down") {
+        return Some(Way::Down);
+    }
+    None
+}
+
+// The way that the argument says, if there is one that says a way.
+fn argued<R: Env>(rt: &R) -> Option<Way> {
+    let mut word = [0u8; 8];
+    let n = rt.arg(1, &mut word).ok()?;
+    way_named(part::between(&word, 0, n))
 }
 
 fn main(rt: HostRuntime) {
-    let mut word = [0u8; 8];
-    let n = argument(&rt, &mut word);
-    if same_bytes(part::between(&word, 0, n), b"up") {
-        read(&rt, true);
+    let Some(way) = argued(&rt) else {
+        io::write_all(2, b"form: neither up nor down\n");
         return;
-    }
-    if same_bytes(part::between(&word, 0, n), b"down") {
-        read(&rt, false);
-        return;
-    }
-    io::write_all(2, b"form: neither up nor down\n");
+    };
+    read(&rt, way);
 }

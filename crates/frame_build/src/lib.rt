@@ -22,29 +22,29 @@ pub const ACK: [u8; 5] = [0x02, 0x01, 0x06, 0xF9, 0x03];
 
 pub const WELL: [u8; 6] = [0x02, 0x02, 0x06, 0x06, 0xF2, 0x03];
 
+// The bytes added up, carries dropped.
+fn added(line: &[u8]) -> u8
+    ensures { result ≡ total line.now % 256 }
+{
+    line.iter().fold(0, |sum: u8, &byte| sum.wrapping_add(byte))
+}
+
 // The line of additions of 001, section 5: LEN, all that follows it and SUM, which must come to 00h.
 pub fn adds_up(line: &[u8]) -> bool
     ensures { result ≡ (total line.now % 256 == 0) }
 {
-    let mut sum = 0;
-    for i in 0..line.len() {
-        sum = std::num::wrapping_add_u8(sum, line[i]);
-    }
-    sum == 0
+    added(line) == 0
 }
 
-// SUM: what that line still lacks of 00h when LEN and body stand in it. Each byte makes it lack so much less.
+// SUM: what that line still lacks of 00h when LEN and body stand in it.
 pub fn sum_of(len: u8, body: &[u8]) -> u8
     ensures { ((len + total body.now + result) % 256 ≡ 0) × (result < 256) }
 {
-    let mut lack = std::num::wrapping_sub_u8(0, len);
-    for i in 0..body.len() {
-        lack = std::num::wrapping_sub_u8(lack, body[i]);
-    }
-    lack
+    len.wrapping_add(added(body)).wrapping_neg()
 }
 
 // Bytes over the first of a buffer; nothing, and the answer 0, where there is no room.
+// stays: the answer 0, here and below, is the count that the clauses of `put_bytes`, `put_frame` and `put_ack_and` name; crates above call them.
 pub fn put_bytes(buffer: &mut [u8], bytes: &[u8]) -> usize
     ensures { put result buffer.new ≡ put_bytes bytes.now buffer.old }
 {
@@ -52,9 +52,7 @@ pub fn put_bytes(buffer: &mut [u8], bytes: &[u8]) -> usize
     if buffer.len() < n {
         return 0;
     }
-    for i in 0..n {
-        buffer[i] = bytes[i];
-    }
+    buffer[..n].copy_from_slice(bytes);
     n
 }
 
@@ -63,13 +61,7 @@ pub fn put_frame(buffer: &mut [u8], start: u8, end: u8, body: &[u8]) -> usize
     ensures { put result buffer.new ≡ put_frame start end body.now buffer.old }
 {
     let n = body.len();
-    if n < 1 {
-        return 0;
-    }
-    if 256 < n {
-        return 0;
-    }
-    if buffer.len() < n + 4 {
+    if n < 1 || 256 < n || buffer.len() < n + 4 {
         return 0;
     }
     // 256 bytes are LEN 00h
@@ -89,8 +81,7 @@ pub fn put_one(reply: &mut [u8], status: u8) -> usize
     if status == 0x06 {
         return put_bytes(reply, &ACK);
     }
-    let body = [status];
-    put_frame(reply, 0x02, 0x03, &body)
+    put_frame(reply, 0x02, 0x03, &[status])
 }
 
 // An answer of two bytes; the pair of two 06h from its constant.
@@ -100,8 +91,7 @@ pub fn put_pair(reply: &mut [u8], line: u8, status: u8) -> usize
     if line == 0x06 && status == 0x06 {
         return put_bytes(reply, &WELL);
     }
-    let body = [line, status];
-    put_frame(reply, 0x02, 0x03, &body)
+    put_frame(reply, 0x02, 0x03, &[line, status])
 }
 
 // The ACK and behind it a data frame of a short body: the answers of A1h, ADh and B0h.

@@ -1,8 +1,7 @@
 -- Faults: the row of 06h is the only one that has it, and where no fault is found no rule applies. Assumes nothing.
 use Rattle.std.proofs.Common.{◌≡◌, Bool, true, false, cond, not, ◌&&◌, eqb, List, [], ◌∷◌, refl, arith}
 use mathlib.Core.Bool.{false≢true}
-use Rattle.rules.specs.declared.Fault.{Fault}
-use Rattle.rules.specs.declared.Fault.TheVariants.{Well, EndByte, Sum, Code, Length, Parameter, Ident, NotBlank, Protected, PageNotBlank, Difference}
+use Rattle.rules.specs.Faults.{Fault, Well, EndByte, Sum, Code, Length, Parameter, Ident, NotBlank, Protected, PageNotBlank, Difference}
 use Rattle.rules.specs.First.{Rule, first, first_fault}
 use Rattle.rules.specs.Frame.{status_byte}
 use Rattle.rules.proofs.Choices.{both}
@@ -16,7 +15,7 @@ well_byte Code e = absurd (omega arith)
 well_byte (Length due found) e = absurd (omega arith)
 well_byte Parameter e = absurd (omega arith)
 well_byte Ident e = absurd (omega arith)
-well_byte (NotBlank note) e = absurd (omega arith)
+well_byte (NotBlank what) e = absurd (omega arith)
 well_byte Protected e = absurd (omega arith)
 well_byte PageNotBlank e = absurd (omega arith)
 well_byte Difference e = absurd (omega arith)

@@ -1,6 +1,6 @@
 -- A search of a table from its front, at any table. Assumes nothing.
 use Rattle.std.proofs.Common.{◌≡◌, ℕ, ◌+◌, ◌<◌, List, [], length, get_or, drop, add-one, drop-cons, eq-eqb, ne_eqb}
-use Rattle.rules.specs.declared.CodeRow.TheVariants.{Row}
+use Rattle.rules.specs.Answers.{Row}
 use Rattle.rules.specs.Chip.{byte_at}
 use Rattle.rules.specs.Command.{lookup}
 

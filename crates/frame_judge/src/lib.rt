@@ -1,7 +1,8 @@
 // Judging the whole frame that a buffer holds by its own LEN, in the order of the status table.
 #![tactic(auto)]
 
-ghost use Rattle.std.specs.Prelude.{◌≡◌, ◌≤◌};
+ghost use Rattle.std.specs.Prelude.{◌≡◌, ◌≤◌, cond, eqb};
+ghost use Rattle.rules.specs.Faults.{Well, EndByte, Sum};
 ghost use Rattle.rules.specs.First.{first_fault};
 ghost use Rattle.rules.specs.Frame.{body_size, frame_size, end_of, end_due, sum_holds, status_byte, note_of, data_fault};
 ghost use Rattle.rules.specs.Command.{phase_number, frame_checks};
@@ -9,7 +10,7 @@ ghost use Rattle.frame_build.specs.Buffer.{frame_in};
 
 use crate::table::row_of;
 use frame_build::adds_up;
-use rules::{CodeRow, Fault, Note, Phase};
+use rules::{Fault, Note, Phase};
 
 pub mod table;
 
@@ -17,7 +18,7 @@ pub mod table;
 pub fn body_size(len: u8) -> usize
     ensures { (result ≡ body_size len) × (result ≤ 256) }
 {
-    std::num::wrapping_sub_u8(len, 1) as usize + 1
+    usize::from(len.wrapping_sub(1)) + 1
 }
 
 pub fn frame_size(len: u8) -> usize
@@ -26,61 +27,47 @@ pub fn frame_size(len: u8) -> usize
     body_size(len) + 4
 }
 
-pub fn status_byte(v: Fault) -> u8
+// stays: the byte of each row of the status table (`status_byte` of rules, in the order of 01's table); two rows have one byte, so no discriminants.
+pub fn status_byte(v: Result<(), Fault>) -> u8
     ensures { result ≡ status_byte v }
 {
     match v {
-        Fault::Well => 0x06,
-        Fault::EndByte => 0x15,
-        Fault::Sum => 0x07,
-        Fault::Code => 0x04,
-        Fault::Length(_, _) => 0x15,
-        Fault::Parameter => 0x05,
-        Fault::Ident => 0x24,
-        Fault::NotBlank(_) => 0x1B,
-        Fault::Protected => 0x10,
-        Fault::PageNotBlank => 0x1C,
-        Fault::Difference => 0x0F,
+        Ok(()) => 0x06,
+        Err(Fault::EndByte | Fault::Length(_, _)) => 0x15,
+        Err(Fault::Sum) => 0x07,
+        Err(Fault::Code) => 0x04,
+        Err(Fault::Parameter) => 0x05,
+        Err(Fault::Ident) => 0x24,
+        Err(Fault::NotBlank(_)) => 0x1B,
+        Err(Fault::Protected) => 0x10,
+        Err(Fault::PageNotBlank) => 0x1C,
+        Err(Fault::Difference) => 0x0F,
     }
 }
 
 // What the note tells of a verdict.
-pub fn note_of(v: Fault) -> Note
+pub fn note_of(v: Result<(), Fault>) -> Option<Note>
     ensures { result ≡ note_of v }
 {
     match v {
-        Fault::Well => Note::Empty,
-        Fault::EndByte => Note::EndByte,
-        Fault::Sum => Note::Empty,
-        Fault::Code => Note::Empty,
-        Fault::Length(due, found) => Note::Length(due, found),
-        Fault::Parameter => Note::Empty,
-        Fault::Ident => Note::Empty,
-        Fault::NotBlank(note) => note,
-        Fault::Protected => Note::Empty,
-        Fault::PageNotBlank => Note::Empty,
-        Fault::Difference => Note::Empty,
+        Err(Fault::EndByte) => Some(Note::EndByte),
+        Err(Fault::Length(due, found)) => Some(Note::Length(due, found)),
+        Err(Fault::NotBlank(note)) => note,
+        _ => None,
     }
 }
 
 pub fn phase_number(p: Phase) -> u8
     ensures { result ≡ phase_number p }
 {
-    match p {
-        Phase::Mode => 0,
-        Phase::Speed => 1,
-        Phase::Ident => 2,
-        Phase::Command => 3,
-        Phase::Silent => 4,
-    }
+    p as u8
 }
 
 // The byte that stands where LEN looks for the end byte.
 fn end_of(frame: &[u8; 260]) -> u8
     ensures { result ≡ end_of frame.now }
 {
-    let n = body_size(frame[1]);
-    frame[n + 3]
+    frame[body_size(frame[1]) + 3]
 }
 
 // The end byte that is due: 03h for the last data frame, 17h where more follow.
@@ -94,57 +81,46 @@ pub fn end_due(last: bool) -> u8
 fn sum_holds(frame: &[u8; 260]) -> bool
     ensures { result ≡ sum_holds frame.now }
 {
-    let whole: &[u8] = frame;
-    let at = body_size(whole[1]) + 3;
-    adds_up(&whole[1..at])
+    adds_up(&frame[1..body_size(frame[1]) + 3])
+}
+
+// Rows 1 and 2 of the status table, which every frame has: the end byte against the one due, then SUM.
+fn judge_ends(frame: &[u8; 260], end: u8) -> Result<(), Fault>
+    ensures { result ≡ cond (eqb (end_of frame.now) end) (cond (sum_holds frame.now) Well Sum) EndByte }
+{
+    if end_of(frame) != end {
+        return Err(Fault::EndByte);
+    }
+    if !sum_holds(frame) {
+        return Err(Fault::Sum);
+    }
+    Ok(())
 }
 
 // Rows 1 to 4 of the status table for a command frame: end byte, SUM, code and phase, LEN; the first that applies.
-pub fn judge_command(frame: &[u8; 260], phase: Phase) -> Fault
+pub fn judge_command(frame: &[u8; 260], phase: Phase) -> Result<(), Fault>
     ensures { result ≡ first_fault (frame_checks phase (frame_in frame.now)) }
 {
+    judge_ends(frame, 0x03)?;
     let len = frame[1];
-    let ends = end_of(frame) == 0x03;
-    let sums = sum_holds(frame);
-    if !ends {
-        return Fault::EndByte;
+    let (due, number) = row_of(frame[2]).ok_or(Fault::Code)?;
+    if number != phase_number(phase) {
+        return Err(Fault::Code);
     }
-    if !sums {
-        return Fault::Sum;
+    if len != due {
+        return Err(Fault::Length(due, len));
     }
-    let CodeRow::Row {
-        len: due,
-        phase: number,
-    } = row_of(frame[2])
-    else {
-        return Fault::Code;
-    };
-    let allowed = number == phase_number(phase);
-    let fits = len == due;
-    if !allowed {
-        return Fault::Code;
-    }
-    if !fits {
-        return Fault::Length(due, len);
-    }
-    Fault::Well
+    Ok(())
 }
 
 // The verdict on a data frame, the last one due or one before it.
-pub fn judge_data(frame: &[u8; 260], last: bool) -> Fault
+pub fn judge_data(frame: &[u8; 260], last: bool) -> Result<(), Fault>
     ensures { result ≡ data_fault last (frame_in frame.now) }
 {
-    let as_due = end_of(frame) == end_due(last);
-    let sums = sum_holds(frame);
-    if !as_due {
-        return Fault::EndByte;
-    }
-    if !sums {
-        return Fault::Sum;
-    }
+    judge_ends(frame, end_due(last))?;
     let len = frame[1];
     if len != 0x00 {
-        return Fault::Length(0x00, len);
+        return Err(Fault::Length(0x00, len));
     }
-    Fault::Well
+    Ok(())
 }

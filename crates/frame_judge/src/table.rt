@@ -1,8 +1,7 @@
 // The constant table of tables: code, LEN, phase; searched for each frame.
+// stays: rows of numbers, as 01 names the form (a constant table of tables) and `rows` of rules' specs/Command has them.
 ghost use Rattle.std.specs.Prelude.{◌≡◌};
 ghost use Rattle.rules.specs.Command.{rows, lookup};
-
-use rules::CodeRow;
 
 const COMMANDS: [[u8; 3]; 13] = [
     [0x00, 1, 3],
@@ -20,18 +19,10 @@ const COMMANDS: [[u8; 3]; 13] = [
     [0xB0, 7, 3],
 ];
 
-// The row with that code.
-pub fn row_of(code: u8) -> CodeRow
+// The length and the number of the phase in the row with that code.
+pub fn row_of(code: u8) -> Option<(u8, u8)>
     ensures { result ≡ lookup rows code }
 {
-    let table = &COMMANDS;
-    for i in 0..13 {
-        if table[i][0] == code {
-            return CodeRow::Row {
-                len: table[i][1],
-                phase: table[i][2],
-            };
-        }
-    }
-    CodeRow::Unknown
+    let row = COMMANDS.iter().find(|row| row[0] == code).copied()?;
+    Some((row[1], row[2]))
 }

@@ -1,11 +1,10 @@
 // What the player is called with: the sheet in hand, the sizes of what is lent, and its record.
-ghost use Rattle.std.specs.Prelude.{◌≤◌};
-
 use crate::show;
 use rules::{Chip, Player};
 use text_read::in_hand::InHand;
 use text_read::{in_hand, part, rows};
 
+// stays: no Option, since the record is shown before a play has begun too, as that of a player before its first call.
 // Between two lines: the sheet, how many entries and bytes are lent, and the chip that sheets are judged against. Until a play has begun the record is that of a
 // player before its first call.
 #[derive(Clone, Copy)]
@@ -30,49 +29,29 @@ pub(crate) fn empty() -> Hand {
     }
 }
 
-fn clear(sums: &mut [u16]) {
-    for k in 0..sums.len() {
-        sums[k] = 0;
-    }
-}
-
 // A list of so many entries, all 0, is lent from now on.
 pub(crate) fn lend_sums(h: Hand, n: usize, sums: &mut [u16]) -> Hand {
-    clear(sums);
-    let mut h = h;
-    h.sums = n;
-    h
+    sums.fill(0);
+    Hand { sums: n, ..h }
 }
 
 // A frame buffer of so many bytes is lent from now on.
 pub(crate) fn lend_room(h: Hand, n: usize) -> Hand {
-    let mut h = h;
-    h.room = n;
-    h
+    Hand { room: n, ..h }
 }
 
 // Later calls are for that chip.
 pub(crate) fn use_chip(h: Hand, chip: Chip) -> Hand {
-    let mut h = h;
-    h.chip = chip;
-    h
+    Hand { chip, ..h }
 }
 
 // A play begins.
 pub(crate) fn begin(h: Hand) -> Hand {
-    let mut h = h;
-    h.begun = true;
-    h.player = player_absorb::new_player();
-    h
-}
-
-fn least(a: usize, b: usize) -> usize
-    ensures { (result ≤ a) × (result ≤ b) }
-{
-    if a < b {
-        return a;
+    Hand {
+        begun: true,
+        player: player_absorb::new_player(),
+        ..h
     }
-    b
 }
 
 // The player's call; what it answers is written.
@@ -102,8 +81,8 @@ pub(crate) fn call(
 ) -> Hand {
     let mut h = h;
     let end = rows::store(reply, 0, row);
-    let room = least(h.room, frame.len());
-    let entries = least(h.sums, sums.len());
+    let room = h.room.min(frame.len());
+    let entries = h.sums.min(sums.len());
     let p = h.player;
     let chip = h.chip;
     h.player = next(

@@ -9,6 +9,7 @@ mod show;
 use text_lines::lines;
 use text_read::part;
 
+// stays: `main` of `answers` reads its script so too; one function for both would be public, and no contract can say what standard input gives.
 fn main() {
     let mut input = lines::room();
     let n = io::read_full(0, &mut input);

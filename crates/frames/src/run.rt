@@ -3,17 +3,9 @@ use crate::hand::Hand;
 use crate::script_line::Line;
 use crate::{hand, script_line};
 use text_lines::lines::{bad_line, room_for_bytes};
-use text_read::line::line_end;
 use text_read::{in_hand, part};
 
-fn is_bad(said: Line) -> bool {
-    match said {
-        Line::Bad => true,
-        _ => false,
-    }
-}
-
-// What a line does with the bytes of the sheet in hand; one of a sheet, and a bad one, do nothing more.
+// What a line does with the bytes of the sheet in hand; one of a sheet does nothing more.
 fn act(
     said: Line,
     text: &[u8],
@@ -24,7 +16,6 @@ fn act(
     sums: &mut [u16],
 ) -> Hand {
     match said {
-        Line::Bad => h,
         Line::OfChip(chip) => hand::use_chip(h, chip),
         Line::Sheet => h,
         Line::Sums(n) => hand::lend_sums(h, n, sums),
@@ -65,32 +56,25 @@ fn run(
     )
 }
 
-// The lines of a script; the number of the bad one that ended it, or 0.
+// The lines of a script; the number of the bad one that ended it, if one did. One without its LF is bad.
 fn lines(
     text: &[u8],
     sheet: &mut [u8],
     reply: &mut [u8],
     frame: &mut [u8],
     sums: &mut [u16],
-) -> usize {
+) -> Option<usize> {
     let mut h = hand::empty();
-    let mut at: usize = 0;
-    let mut number: usize = 0;
-    while at < text.len() {
-        number += 1;
-        let end = line_end(text, at);
-        if end >= text.len() {
-            return number;
-        }
-        let line = part::between(text, at, end);
-        let said = script_line::parse(line, h.begun);
-        if is_bad(said) {
-            return number;
-        }
+    for (k, ended) in text.split_inclusive(|&b| b == b'\n').enumerate() {
+        let Some((b'\n', line)) = ended.split_last() else {
+            return Some(k + 1);
+        };
+        let Some(said) = script_line::parse(line, h.begun) else {
+            return Some(k + 1);
+        };
         h = run(said, line, h, sheet, reply, frame, sums);
-        at = end + 1;
     }
-    0
+    None
 }
 
 // A whole script, with an empty sheet in hand.

@@ -1,5 +1,5 @@
 // What a call writes: the frame, the report with the list of sums, or the refusal.
-use rules::{Next, Report};
+use rules::{Refusal, Report};
 use text_lines::{output, told};
 use text_read::part;
 
@@ -14,8 +14,8 @@ fn frame_line(frame: &[u8]) {
 // Puts a space and four digits for each sum into a lent line; where the next goes.
 fn entries(line: &mut [u8], sums: &[u16]) -> usize {
     let mut at: usize = 0;
-    for k in 0..sums.len() {
-        at = output::word(line, at, sums[k]);
+    for &sum in sums {
+        at = output::word(line, at, sum);
     }
     at
 }
@@ -30,13 +30,18 @@ fn sums_line(sums: &[u16]) {
 }
 
 // What the call answered, over the buffers that were lent to it.
-pub(crate) fn call(next: Next, report: Report, frame: &[u8], sums: &[u16]) {
+pub(crate) fn call(
+    next: Result<Option<usize>, Refusal>,
+    report: Report,
+    frame: &[u8],
+    sums: &[u16],
+) {
     match next {
-        Next::Refused(refusal) => {
+        Err(refusal) => {
             told::refused(refusal);
         }
-        Next::Frame(n) => frame_line(part::between(frame, 0, n)),
-        Next::End => {
+        Ok(Some(n)) => frame_line(part::between(frame, 0, n)),
+        Ok(None) => {
             told::end(report);
             sums_line(sums)
         }

@@ -9,10 +9,9 @@ use lib.ListN.{length, take, drop, length-append, length-take, length-drop, leng
 use borrow.Author.Tests.{leb-true}
 use Rattle.rules.specs.declared.Flash.{Flash}
 use Rattle.rules.specs.declared.Flash.TheVariants.{Code, Data}
-use Rattle.rules.specs.declared.hex.HexLine.{HexLine}
-use Rattle.rules.specs.declared.hex.HexLine.TheVariants as line
-use Rattle.rules.specs.declared.hex.HexRead.{HexRead}
-use Rattle.rules.specs.declared.hex.HexRead.TheVariants.{On, Ended, Refused}
+use Rattle.rules.specs.HexLines.{HexLine}
+use Rattle.rules.specs.HexLines as line
+use Rattle.rules.specs.Answers.{HexRead, On, Ended, Refused}
 use Rattle.rules.specs.Chip.{Memory, small, start, flash_size, flash_of, with_flash}
 use Rattle.rules.specs.Lines.{lines_of, pair_bytes}
 use Rattle.rules.specs.Hex.{without_cr, line_kind, not_given, no_cells, any_given, put_bytes, Taken, taken, lies_in, bytes_in, bytes_at, taken_as, line_taken, Reading, after_end, goes_on, read_lines, hex_read}

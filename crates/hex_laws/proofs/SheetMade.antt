@@ -2,15 +2,14 @@
 use mathlib.Core.Path.{◌≡◌, refl, sym, ap, ◌∙◌}
 use mathlib.Core.Bool.{true, false}
 use mathlib.Core.List.{List, [], ◌∷◌, ◌++◌, append_assoc}
-use Prim.Native.Nat.{ℕ, zero, suc, ◌+◌, ◌-◌, ◌*◌, ◌/◌, ◌%◌, ◌<◌, ◌≤◌}
+use Prim.Native.Nat.{ℕ, suc, ◌+◌, ◌-◌, ◌*◌, ◌/◌, ◌%◌, ◌<◌, ◌≤◌}
 use native.Mathlib.Omega.{arith}
 use lib.Dec.{ltb, eqb}
 use lib.ListN.{length, take, drop, length-append, length-drop}
 use lib.Seq.{take_at, drop_at, drop-drop}
 use borrow.Author.Tests.{eq-eqb, ne_eqb, le-leb, ltb-true}
 use Rattle.rules.specs.declared.Chip.{Chip}
-use Rattle.rules.specs.declared.Range.TheVariants.{Blocks}
-use Rattle.rules.specs.declared.Verdict.TheVariants.{Accepted}
+use Rattle.rules.specs.Answers.{Blocks, Accepted}
 use Rattle.rules.specs.Chip.{Memory, small, known, blocks, block_size, flash_of, first_byte, last_byte, range}
 use Rattle.rules.specs.Sheet.{form_two, against, count, kind_at, range_at, written, any_from, writes_again, body_end, offset_due, entry_verdict, entries_verdict, verdict, kind_of, step_of, step_at}
 use Rattle.rules.specs.Hex.{Named, blocks_named, block_cells, cell_bytes, body_of, entry_of, entries_of, bodies_of, steps_of, sheet_of}

@@ -9,12 +9,10 @@ use lib.ListN.{length, take, drop}
 use lib.Seq.{take_at}
 use borrow.Author.Tests.{ltb-false}
 use Rattle.rules.specs.declared.Options.{Options}
-use Rattle.rules.specs.declared.hex.HexRead.{HexRead}
-use Rattle.rules.specs.declared.hex.HexRead.TheVariants as read
+use Rattle.rules.specs.Answers.{HexRead, HexMade, Sheet, Refused}
+use Rattle.rules.specs.Answers as read
 use Rattle.rules.specs.declared.hex.HexRefusal.{HexRefusal}
 use Rattle.rules.specs.declared.hex.HexRefusal.TheVariants.{ManySteps, ManyBytes, ShortBuffer}
-use Rattle.rules.specs.declared.hex.HexMade.{HexMade}
-use Rattle.rules.specs.declared.hex.HexMade.TheVariants.{Sheet, Refused}
 use Rattle.rules.specs.First.{first}
 use Rattle.rules.specs.Chip.{Memory, small, over}
 use Rattle.rules.specs.Options.{fresh_options}

@@ -3,8 +3,7 @@
 use Rattle.std.specs.Prelude.{ℕ, ◌≤◌, ◌≡◌, true, List, length, take}
 use Rattle.rules.specs.declared.Options.{Options}
 use Rattle.rules.specs.declared.Stage.TheVariants.{New}
-use Rattle.rules.specs.declared.Verdict.TheVariants.{Accepted}
-use Rattle.rules.specs.declared.hex.HexMade.TheVariants.{Sheet}
+use Rattle.rules.specs.Answers.{Accepted, Sheet}
 use Rattle.rules.specs.Chip.{Memory, small, ident_of}
 use Rattle.rules.specs.Options.{IFPR}
 use Rattle.rules.specs.Sheet.{count, verdict}

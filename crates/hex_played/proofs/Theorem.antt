@@ -4,7 +4,7 @@ use mathlib.Core.List.{List}
 use Prim.Native.Nat.{ℕ, ◌≤◌}
 use lib.ListN.{length, take}
 use Rattle.rules.specs.declared.Options.{Options}
-use Rattle.rules.specs.declared.Verdict.TheVariants.{Accepted}
+use Rattle.rules.specs.Answers.{Accepted}
 use Rattle.rules.specs.Chip.{Memory, small, known, flash_of}
 use Rattle.rules.specs.Sheet.{count, verdict}
 use Rattle.rules.specs.StandIn.{State, powered}
@@ -14,7 +14,7 @@ use Rattle.rules.specs.Run.{Joined}
 use Rattle.chip_finder.specs.LentFlashes.{memory}
 use Rattle.joined_laws.specs.Turns.{Fit}
 use Rattle.joined_laws.proofs.LengthsKept.{feed_kept}
-use Rattle.joined.specs.declared.Answer.{Answer}
+use Rattle.joined.specs.Answers.{Answer}
 use Rattle.joined.specs.CameTo.{CameTo}
 use Rattle.joined.proofs.FromPowerOn.{power_on_feeds, comes, power_on_feed_play, power_on_open_play}
 use Rattle.hex_laws.specs.Programmed.{Unprotected, Finished}

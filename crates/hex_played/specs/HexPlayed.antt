@@ -3,9 +3,7 @@
 use Rattle.std.specs.Prelude.{ℕ, ◌≤◌, ◌≡◌, true, List, length, take}
 use Rattle.rules.specs.declared.Options.{Options}
 use Rattle.rules.specs.declared.Stage.TheVariants.{Over}
-use Rattle.rules.specs.declared.Verdict.TheVariants.{Accepted}
-use Rattle.rules.specs.declared.hex.HexMade.{HexMade}
-use Rattle.rules.specs.declared.hex.HexMade.TheVariants.{Sheet}
+use Rattle.rules.specs.Answers.{Accepted, HexMade, Sheet}
 use Rattle.rules.specs.Chip.{Memory, small, ident_of}
 use Rattle.rules.specs.Options.{IFPR}
 use Rattle.rules.specs.Numbers.{call_number}
@@ -23,8 +21,8 @@ use Rattle.standin.specs.Shows.{shows, powered_as}
 use Rattle.standin.specs.Feeding.{fed_as, fed_into}
 use Rattle.standin.specs.Opening.{opening_room, opening_verdict, opened}
 use Rattle.joined_laws.specs.Turns.{Fit, Settled, end_of}
-use Rattle.joined.specs.declared.Answer.{Answer}
-use Rattle.joined.specs.declared.Answer.TheVariants as answer
+use Rattle.joined.specs.Answers.{Answer}
+use Rattle.joined.specs.Answers as answer
 use Rattle.joined.specs.declared.Played.{Played}
 use Rattle.joined.specs.Rigs.{rigged}
 use Rattle.joined.specs.Plays.{sheet_outcome, sheet_played}

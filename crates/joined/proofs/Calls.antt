@@ -1,6 +1,8 @@
 -- The joined calls, outcome by outcome; and what is known where none is refused. Assumes nothing.
-use mathlib.Core.Path.{◌≡◌, refl, ap}
-use mathlib.Core.Bool.{true, false, false≢true}
+use mathlib.Core.Path.{◌≡◌, refl, ap, ◌∙◌}
+use native.Mathlib.Omega.{arith}
+use Rattle.std.specs.Prelude.{Err}
+use mathlib.Core.Bool.{Bool, true, false, cond, false≢true}
 use mathlib.Core.List.{List}
 use Prim.Native.Nat.{ℕ, ◌+◌, ◌≤◌}
 use lib.Dec.{leb}
@@ -12,8 +14,8 @@ use Rattle.rules.specs.declared.Player.{Player}
 use Rattle.rules.specs.declared.Refusal.{Refusal}
 use Rattle.rules.specs.declared.Stage.{Stage}
 use Rattle.rules.specs.declared.Stage.TheVariants.{New, Ready, Block, Commanded, Page, Paged, Over}
-use Rattle.rules.specs.declared.Verdict.TheVariants.{Accepted}
-use Rattle.rules.specs.declared.Verdict.TheVariants as v
+use Rattle.rules.specs.Answers.{Verdict, Accepted}
+use Rattle.rules.specs.Answers as v
 use Rattle.rules.specs.StandIn.{lent_verdict}
 use Rattle.rules.specs.Sheet.{verdict, step_at}
 use Rattle.rules.specs.Player.{new_player, lost, player_verdict, frame_room}
@@ -25,47 +27,115 @@ use Rattle.standin_state.specs.View.{Fits}
 use Rattle.standin_state.proofs.Lending.{lent_fits}
 use Rattle.joined_laws.specs.Turns.{Fit}
 use Rattle.joined_laws.proofs.Run.{accepted_sized}
-use Rattle.joined.specs.declared.Answer.TheVariants.{Refused, NotAtStep, Busy, Played}
+use Rattle.joined.specs.declared.NotPlayed.{NotPlayed}
+use Rattle.joined.specs.Answers.{Answer, Refused, NotAtStep, Busy, Played}
+use Rattle.joined_checks.specs.declared.LentSizes.{LentSizes}
 use Rattle.joined_checks.specs.Checks.{joined_verdict, is_ready, starts_step}
-use Rattle.joined.specs.Plays.{outcome, sheet_outcome, lengths, judged, all_played, step_played, sheet_played}
+use Rattle.joined.specs.Plays.{outcome, sheet_outcome, lengths, judged, play_answer, all_played, step_played, sheet_played}
 use Rattle.joined.specs.Turn.{Rooms, StepReady}
 use Rattle.joined.specs.Ready.{PlayReady}
+
+-- ---- whether a call plays ----
+
+-- it does: nothing is refused, the player may start, and the stand-in waits
+pub record Plays (refused : Verdict) (starting waiting : Bool) : Type 0 where
+  pub accepted : refused ≡ Accepted
+  pub starts : starting ≡ true
+  pub waits : waiting ≡ true
+
+not_played : {A : Type 0} (why : NotPlayed) → Err why ≡ Played → A
+not_played why e = let z : ◌≡◌ {A = ℕ} 0 1 = cc in absurd (omega arith)
+
+pub plays : (refused : Verdict) (starting waiting : Bool) → play_answer refused starting waiting ≡ Played → Plays refused starting waiting
+unfolding judged
+plays Accepted true true e = record { accepted = refl; starts = refl; waits = refl }
+plays Accepted true false e = not_played _ e
+plays Accepted false waiting e = not_played _ e
+plays (v.Refused n) starting waiting e = not_played _ e
 
 -- ---- outcomes ----
 
 module _ (chip : Chip) (s : List ℕ) (j : Joined) where
-  pub step_refused : (n : Refusal) → joined_verdict chip s j.player (lengths j) ≡ v.Refused n → step_played chip s j ≡ outcome (Refused n) j
+  -- a step is played, or its answer says why not and all stands
+  abbrev pub step_told : Answer
+  step_told = play_answer (joined_verdict chip s j.player (lengths j)) (starts_step chip s j.player) (waits chip j.state)
+
+  -- as the code asks
+  pub step_asked : (l : LentSizes) → l ≡ lengths j → (b : Bool) → b ≡ starts_step chip s j.player
+      → (a : Answer) → a ≡ play_answer (joined_verdict chip s j.player l) b (waits chip j.state) → a ≡ step_told
+  step_asked l e b f a h =
+      h
+      ∙ ap (λ (x : LentSizes). play_answer (joined_verdict chip s j.player x) b (waits chip j.state)) e
+      ∙ ap (λ (x : Bool). play_answer (joined_verdict chip s j.player (lengths j)) x (waits chip j.state)) f
+
+  pub step_not : (why : NotPlayed) → Err why ≡ step_told → outcome (Err why) j ≡ step_played chip s j
   unfolding step_played judged
-  step_refused n e = rw e
+  step_not why e = go (joined_verdict chip s j.player (lengths j)) (starts_step chip s j.player) (waits chip j.state) e
+    where
+      go : (x : Verdict) (a b : Bool) → Err why ≡ play_answer x a b → outcome (Err why) j
+          ≡ judged x (λ y. outcome y j) (cond a (cond b (outcome Played (step_run clean chip s 0 j).reached) (outcome Busy j)) (outcome NotAtStep j))
+      go Accepted true true h = not_played why h
+      go Accepted true false h = ap (λ y. outcome y j) h
+      go Accepted false b h = ap (λ y. outcome y j) h
+      go (v.Refused n) a b h = ap (λ y. outcome y j) h
 
-  module _ (ok : joined_verdict chip s j.player (lengths j) ≡ Accepted) where
-    pub step_not_begun : starts_step chip s j.player ≡ false → step_played chip s j ≡ outcome NotAtStep j
-    unfolding step_played judged
-    step_not_begun e = rw (ok, e)
+  pub step_answer : (step_played chip s j).answer ≡ step_told
+  unfolding step_played judged
+  step_answer = go (joined_verdict chip s j.player (lengths j)) (starts_step chip s j.player) (waits chip j.state)
+    where
+      go : (x : Verdict) (a b : Bool)
+          → (judged x (λ y. outcome y j) (cond a (cond b (outcome Played (step_run clean chip s 0 j).reached) (outcome Busy j)) (outcome NotAtStep j))).answer
+          ≡ play_answer x a b
+      go Accepted true true = refl
+      go Accepted true false = refl
+      go Accepted false b = refl
+      go (v.Refused n) a b = refl
 
-    module _ (b : starts_step chip s j.player ≡ true) where
-      pub step_busy : waits chip j.state ≡ false → step_played chip s j ≡ outcome Busy j
-      unfolding step_played judged
-      step_busy e = rw (ok, b, e)
-
-      pub step_played_lem : waits chip j.state ≡ true → step_played chip s j ≡ outcome Played (step_run clean chip s 0 j).reached
-      unfolding step_played judged
-      step_played_lem e = rw (ok, b, e)
+  pub step_played_lem : Plays (joined_verdict chip s j.player (lengths j)) (starts_step chip s j.player) (waits chip j.state)
+      → step_played chip s j ≡ outcome Played (step_run clean chip s 0 j).reached
+  unfolding step_played judged
+  step_played_lem p = rw (p.accepted, p.starts, p.waits)
 
   module _ (each : List ℕ) where
+    -- a whole sheet
+    abbrev pub sheet_told : Answer
+    sheet_told = play_answer (joined_verdict chip s new_player (lengths j)) true (waits chip j.state)
+
+    pub sheet_asked : (p : Player) → p ≡ new_player → (l : LentSizes) → l ≡ lengths j
+        → (a : Answer) → a ≡ play_answer (joined_verdict chip s p l) true (waits chip j.state) → a ≡ sheet_told
+    sheet_asked p e l f a h =
+        h
+        ∙ ap (λ (x : LentSizes). play_answer (joined_verdict chip s p x) true (waits chip j.state)) f
+        ∙ ap (λ (x : Player). play_answer (joined_verdict chip s x (lengths j)) true (waits chip j.state)) e
+
+    pub sheet_not : (why : NotPlayed) → Err why ≡ sheet_told → sheet_outcome (Err why) j each ≡ sheet_played chip s j each
+    unfolding sheet_played judged
+    sheet_not why e = go (joined_verdict chip s new_player (lengths j)) (waits chip j.state) e
+      where
+        go : (x : Verdict) (b : Bool) → Err why ≡ play_answer x true b → sheet_outcome (Err why) j each
+            ≡ judged x (λ y. sheet_outcome y j each) (cond b (all_played chip s j each) (sheet_outcome Busy j each))
+        go Accepted true h = not_played why h
+        go Accepted false h = ap (λ y. sheet_outcome y j each) h
+        go (v.Refused n) b h = ap (λ y. sheet_outcome y j each) h
+
+    pub sheet_answer : (sheet_played chip s j each).answer ≡ sheet_told
+    unfolding sheet_played judged
+    sheet_answer = go (joined_verdict chip s new_player (lengths j)) (waits chip j.state)
+      where
+        go : (x : Verdict) (b : Bool) → (judged x (λ y. sheet_outcome y j each) (cond b (all_played chip s j each) (sheet_outcome Busy j each))).answer ≡ play_answer x true b
+        go Accepted true = refl
+        go Accepted false = refl
+        go (v.Refused n) b = refl
+
     pub sheet_refused : (n : Refusal) → joined_verdict chip s new_player (lengths j) ≡ v.Refused n
         → sheet_played chip s j each ≡ sheet_outcome (Refused n) j each
     unfolding sheet_played judged
     sheet_refused n e = rw e
 
-    module _ (ok : joined_verdict chip s new_player (lengths j) ≡ Accepted) where
-      pub sheet_busy : waits chip j.state ≡ false → sheet_played chip s j each ≡ sheet_outcome Busy j each
-      unfolding sheet_played judged
-      sheet_busy e = rw (ok, e)
-
-      pub sheet_played_lem : waits chip j.state ≡ true → sheet_played chip s j each ≡ all_played chip s j each
-      unfolding sheet_played judged
-      sheet_played_lem e = rw (ok, e)
+    pub sheet_played_lem : joined_verdict chip s new_player (lengths j) ≡ Accepted → waits chip j.state ≡ true
+        → sheet_played chip s j each ≡ all_played chip s j each
+    unfolding sheet_played judged
+    sheet_played_lem ok e = rw (ok, e)
 
 -- ---- what an acceptance says ----
 
@@ -108,16 +178,15 @@ ready (Paged k) e = absurd (false≢true e)
 ready Over e = absurd (false≢true e)
 
 -- a step may start
-pub starts : (chip : Chip) (s : List ℕ) (j : Joined) → joined_verdict chip s j.player (lengths j) ≡ Accepted
-    → starts_step chip s j.player ≡ true
-    → waits chip j.state ≡ true
+pub starts : (chip : Chip) (s : List ℕ) (j : Joined)
+    → Plays (joined_verdict chip s j.player (lengths j)) (starts_step chip s j.player) (waits chip j.state)
     → StepReady chip s j
 unfolding starts_step
-starts chip s j ok b w =
-    let g = good chip s j.player j ok in
+starts chip s j w =
+    let g = good chip s j.player j w.accepted in
     let p = j.player in
     let most = most_frames (step_at chip s p.step) in
-    let q = both (is_ready p.stage) (leb (p.frames + most) 0xFFFFFFFF) b in
+    let q = both (is_ready p.stage) (leb (p.frames + most) 0xFFFFFFFF) w.starts in
     let stage = ready p.stage q.0 in
     record {
       rooms = g.rooms;
@@ -127,7 +196,7 @@ starts chip s j ok b w =
             stage = stage;
             there = ready_stands chip s p g.found stage;
             counts = leb-true (p.frames + most) 0xFFFFFFFF q.1;
-            waiting = w;
+            waiting = w.waits;
             fit = g.fit;
           };
     }

@@ -11,10 +11,8 @@ use Rattle.rules.specs.declared.Flash.TheVariants.{Code, Data}
 use Rattle.rules.specs.declared.Options.{Options}
 use Rattle.rules.specs.declared.Phase.TheVariants.{Command}
 use Rattle.rules.specs.declared.Task.TheVariants.{Idle}
-use Rattle.rules.specs.declared.Call.{Call}
-use Rattle.rules.specs.declared.Call.TheVariants.{Refused, Answer}
-use Rattle.rules.specs.declared.Verdict.{Verdict}
-use Rattle.rules.specs.declared.Verdict.TheVariants as v
+use Rattle.rules.specs.Answers.{Call, Refused, Answer, Verdict}
+use Rattle.rules.specs.Answers as v
 use Rattle.rules.specs.Chip.{Memory, known, flash_of, ident_of}
 use Rattle.rules.specs.Options.{IFPR}
 use Rattle.rules.specs.Numbers.{call_number}
@@ -45,7 +43,7 @@ use Rattle.joined_laws.proofs.Opened.{ident_there, opens}
 use Rattle.joined_laws.proofs.Run.{some_code, known_run}
 use Rattle.joined_checks.specs.Checks.{joined_verdict}
 use Rattle.joined.specs.Rigs.{rigged}
-use Rattle.joined.specs.declared.Answer as answers
+use Rattle.joined.specs.Answers as answers
 use Rattle.joined.specs.declared.Played.{Played}
 use Rattle.joined.specs.Plays.{SheetOutcome, sheet_outcome, lengths, sheet_played}
 use Rattle.joined.specs.CameTo.{CameTo}

@@ -4,7 +4,7 @@ use mathlib.Core.Path.{◌≡◌, sym, ap, ◌∙◌}
 use mathlib.Core.List.{List}
 use Prim.Native.Nat.{ℕ}
 use Rattle.rules.specs.Run.{Joined}
-use Rattle.joined.specs.declared.Answer.{Answer}
+use Rattle.joined.specs.Answers.{Answer}
 use Rattle.joined.specs.Plays.{Outcome, outcome, SheetOutcome, sheet_outcome}
 
 -- what two joined states have in common that are the same

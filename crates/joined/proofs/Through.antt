@@ -26,6 +26,7 @@ use Rattle.joined_laws.proofs.Run.{Before, done_at, leaves_at, Played, played, o
 use Rattle.joined_laws.proofs.Turns.{any_turn_as}
 use Rattle.joined.specs.Plays.{is_over, played_to, all_played}
 use Rattle.joined.specs.Turn.{Rooms, StepReady}
+use Rattle.joined.proofs.Within.{rooms_kept}
 use Rattle.joined.specs.Ready.{PlayReady}
 
 -- over a clean line it does not matter how many frames went before
@@ -125,6 +126,23 @@ module _ (chip : Chip) (s : List ℕ) where
               ap (step_frames_from chip s b.state.options b.state.memory 0 each) (sym all_left),
             );
       }
+
+  -- the first call of the code, which keeps the list of sums as long as it was: the play begins there, and its end is that of the whole
+  module _ (j : Joined) (r : List ℕ) (q : Player) (sums : List ℕ) (e : absorbs q sums ≡ absorbed_in chip s j.player r j.sums) where
+    abbrev begun : Joined
+    begun = joining q j.state sums j.frame j.reply j.arrived
+
+    pub opened : PlayReady chip s j → length sums ≡ length j.sums → (each : List ℕ) → Through chip s begun each 0 begun each
+    opened o kept each =
+        opening j o begun (first_call j o.fresh r q sums e)
+        (rooms_kept chip s j begun o.rooms kept refl refl)
+        each
+
+    pub ended : j.player.stage ≡ New → (end : Joined) (each₀ each : List ℕ)
+        → end ≡ (run_from clean chip s 0 (most_calls chip s) begun).reached
+        → each ≡ step_frames chip s j.state.options j.state.memory each₀
+        → played_to end each ≡ all_played chip s j each₀
+    ended new end each₀ each = ended_as j begun (first_call j new r q sums e) refl end each₀ each
 
   module _ (j : Joined) (each₀ : List ℕ) (i : ℕ) (now· : Joined) (each : List ℕ) (t : Through chip s j each₀ i now· each) where
     abbrev all : List ℕ

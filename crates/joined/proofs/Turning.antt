@@ -1,11 +1,11 @@
 -- A turn as the code makes it, part by part, is a turn of the definitions. Assumes nothing.
-use mathlib.Core.Path.{◌≡◌, sym, ap, ◌∙◌}
+use mathlib.Core.Path.{◌≡◌, refl, sym, ap, ◌∙◌}
 use mathlib.Core.List.{List, ◌∷◌}
 use Prim.Native.Nat.{ℕ}
 use lib.ListN.{length, take, drop}
 use lib.Seq.{take-append_seam}
-use Rattle.rules.specs.declared.Call.{Call}
-use Rattle.rules.specs.declared.Call.TheVariants.{Answer}
+use Rattle.std.specs.Result.{result_unwrap_or}
+use Rattle.rules.specs.Answers.{Call, Answer, Refused}
 use Rattle.rules.specs.declared.Chip.{Chip}
 use Rattle.rules.specs.declared.Flash.TheVariants.{Code, Data}
 use Rattle.rules.specs.declared.Phase.TheVariants.{Command}
@@ -56,6 +56,11 @@ module _ (chip : Chip) (s : List ℕ) (j : Joined) (f : Framed chip s j) where
       ∙ ap (λ (o : Out). feeding o.state (Answer (length o.answer)) (length bytes) (over o.answer reply)) (sym (hears_whole chip j.state Command fresh f.len f.more f.all))
 
 -- ---- the parts of a turn, each as it came ----
+
+-- how many bytes a feeding answered: none where it was refused
+pub answered : (call : Call) → result_unwrap_or call 0 ≡ answer_size call
+answered (Answer n) = refl
+answered (Refused r) = refl
 
 module _ (chip : Chip) (s : List ℕ) (j : Joined) (t : TurnReady chip s j) where
   abbrev e : Sent

@@ -2,12 +2,14 @@
 use mathlib.Core.Path.{◌≡◌, sym, ap, ◌∙◌}
 use mathlib.Core.Bool.{Bool, true, false, cond, false≢true}
 use mathlib.Core.List.{List}
-use Prim.Native.Nat.{ℕ, suc, ◌+◌, ◌-◌, ◌<◌}
+use Prim.Native.Nat.{ℕ, suc, ◌+◌, ◌-◌, ◌<◌, ◌≤◌}
 use native.Mathlib.Omega.{arith}
 use lib.ListN.{length}
+use borrow.Author.Tests.{ltb-false}
 use Rattle.rules.specs.declared.Chip.{Chip}
-use Rattle.rules.specs.Sheet.{step_at}
+use Rattle.rules.specs.Sheet.{count, step_at}
 use Rattle.rules.specs.Run.{clean, Joined, Ran, ran, turned, between, step_from, most_frames, step_run}
+use Rattle.rules.proofs.Sheet.{accepted_allowed}
 use Rattle.joined_laws.specs.Turns.{Sized, step_leaves}
 use Rattle.joined_laws.proofs.Turns.{Mid, Turned, Ends, Goes, mid_frame, mid_found, turn, any_turn_as}
 use Rattle.joined_laws.proofs.Steps.{begin}
@@ -20,6 +22,16 @@ In chip s j k now =
     (step_leaves j.state.options s (step_at chip s j.player.step) j.state.memory)
     k
     now
+
+-- the room is there while what is lent keeps its lengths
+pub rooms_kept : (chip : Chip) (s : List ℕ) (j k : Joined) → Rooms chip s j → length k.sums ≡ length j.sums → length k.frame ≡ length j.frame → length k.reply ≡ length j.reply
+    → Rooms chip s k
+rooms_kept chip s j k rooms sums frame reply =
+    record { accepted = rw sums rooms.accepted; frame = rw frame rooms.frame; reply = rw reply rooms.reply }
+
+-- an accepted sheet has 64 steps at most
+pub few_steps : (chip : Chip) (s : List ℕ) (j : Joined) → Rooms chip s j → count s ≤ 64
+few_steps chip s j rooms = ltb-false 64 (count s) (accepted_allowed chip s (length j.sums) rooms.accepted).sheet.j2
 
 -- i turns were made of at most so many
 pub record Within (chip : Chip) (s : List ℕ) (j : Joined) (most i : ℕ) (now : Joined) : Type 0 where

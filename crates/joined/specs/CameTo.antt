@@ -5,8 +5,7 @@ use Rattle.rules.specs.declared.Stage.TheVariants.{Over}
 use Rattle.rules.specs.Meaning.{Ended}
 use Rattle.rules.specs.Run.{Joined}
 use Rattle.joined_laws.specs.Turns.{Settled, end_of}
-use Rattle.joined.specs.declared.Answer.{Answer}
-use Rattle.joined.specs.declared.Answer.TheVariants.{Played}
+use Rattle.joined.specs.Answers.{Answer, Played}
 
 -- flash, options, report and list of sums are those, and so is the list of each step's frames; the player is at its end, and the stand-in waits
 -- for a command, or is Silent where IFPR is 0 (02, M-106)

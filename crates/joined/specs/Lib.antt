@@ -1,3 +1,4 @@
+pub mod Answers
 pub mod Rigs
 pub mod Turn
 pub mod Plays

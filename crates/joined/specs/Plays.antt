@@ -3,8 +3,8 @@ use Rattle.std.specs.Prelude.{ℕ, ◌≡◌, Bool, true, false, cond, List, len
 use Rattle.rules.specs.declared.Chip.{Chip}
 use Rattle.rules.specs.declared.Stage.{Stage}
 use Rattle.rules.specs.declared.Stage.TheVariants.{New, Ready, Block, Commanded, Page, Paged, Over}
-use Rattle.rules.specs.declared.Verdict.{Verdict}
-use Rattle.rules.specs.declared.Verdict.TheVariants as verdict
+use Rattle.rules.specs.Answers.{Verdict}
+use Rattle.rules.specs.Answers as verdict
 use Rattle.rules.specs.declared.numbers.Number.{Number}
 use Rattle.rules.specs.Numbers.{refusal_number}
 use Rattle.rules.specs.Meaning.{step_frames}
@@ -13,8 +13,7 @@ use Rattle.rules.specs.Run.{Joined, clean, run, step_run, waits}
 use Rattle.joined_checks.specs.declared.LentSizes.{LentSizes}
 use Rattle.joined_checks.specs.Checks.{joined_verdict, starts_step}
 use Rattle.joined.specs.declared.Rig.{Rig}
-use Rattle.joined.specs.declared.Answer.{Answer}
-use Rattle.joined.specs.declared.Answer.TheVariants.{Refused, NotAtStep, Busy, Played}
+use Rattle.joined.specs.Answers.{Answer, Refused, NotAtStep, Busy, Played}
 
 -- finished or stopped
 abbrev pub is_over : Stage → Bool
@@ -64,6 +63,10 @@ lengths j =
 unfoldable pub judged : {A : Type 0} → Verdict → (Answer → A) → A → A
 judged (verdict.Refused n) stands later = stands (Refused n)
 judged verdict.Accepted stands later = later
+
+-- whether a call plays: with a player that may start there or not, and a stand-in that waits for a command or not
+abbrev pub play_answer : Verdict → Bool → Bool → Answer
+play_answer v starting waiting = judged v (λ a. a) (cond starting (cond waiting Played Busy) NotAtStep)
 
 -- ONE STEP
 unfoldable pub step_played : Chip → List ℕ → Joined → Outcome

@@ -1,7 +1,7 @@
 -- Player and stand-in at the two ends of a line: what is shown. Assumes nothing.
 use Rattle.std.specs.Prelude.{ℕ, List, take}
-use Rattle.rules.specs.declared.Call.{Call}
-use Rattle.rules.specs.declared.Call.TheVariants as call
+use Rattle.rules.specs.Answers.{Call}
+use Rattle.rules.specs.Answers as call
 use Rattle.rules.specs.Run.{Joined, joining}
 use Rattle.chip_finder.specs.LentFlashes.{memory}
 use Rattle.standin_engine.specs.View.{view}

@@ -1,7 +1,7 @@
 -- What has to be for a turn, and for a step. Assumes nothing.
 use Rattle.std.specs.Prelude.{ℕ, ◌≤◌, ◌≡◌, false, List, length}
 use Rattle.rules.specs.declared.Chip.{Chip}
-use Rattle.rules.specs.declared.Verdict.TheVariants.{Accepted}
+use Rattle.rules.specs.Answers.{Accepted}
 use Rattle.rules.specs.Sheet.{verdict}
 use Rattle.rules.specs.Player.{lost}
 use Rattle.rules.specs.Run.{Joined}

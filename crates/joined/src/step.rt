@@ -3,14 +3,14 @@ ghost use Rattle.std.specs.Prelude.{◌≡◌};
 ghost use Rattle.joined.specs.Rigs.{rigged};
 ghost use Rattle.joined.specs.Plays.{answer_number, outcome, step_played, given, Stands};
 
-use super::{Answer, Played};
-use crate::Rig;
+use crate::checks::{lent_sizes, may_play};
 use crate::stepping::step_through;
-use joined_checks::LentSizes;
-use rules::{Chip, Player, Verdict};
+use crate::{Played, Rig};
+use rules::{Chip, Player};
 use standin_state::Core;
 
 // The step at whose beginning the player stands. Where it is not played, all stands, to the byte.
+// stays: what is lent goes on one by one, for the ground given at `turn::turn`.
 pub fn play_step(
     chip: Chip,
     sheet: &[u8],
@@ -32,34 +32,17 @@ pub fn play_step(
         core: c,
         arrived: 0,
     };
-    let lent = LentSizes {
-        code: code.len(),
-        data: data.len(),
-        reply: reply.len(),
-        frame: frame.len(),
-        sums: sums.len(),
-    };
-    if let Verdict::Refused(refusal) = joined_checks::refusal(chip, sheet, p, lent) {
+    let lent = lent_sizes(&*code, &*data, &*reply, &*frame, &*sums);
+    let starts = joined_checks::starts_step(chip, sheet, p);
+    if let Err(why) = may_play(chip, sheet, rig, starts, &*held, lent) {
         return Played {
             rig,
-            answer: Answer::Refused(refusal),
-        };
-    }
-    if !joined_checks::starts_step(chip, sheet, p) {
-        return Played {
-            rig,
-            answer: Answer::NotAtStep,
-        };
-    }
-    if !joined_checks::waits(chip, c, &*held) {
-        return Played {
-            rig,
-            answer: Answer::Busy,
+            answer: Err(why),
         };
     }
     let end = step_through(chip, sheet, rig, held, code, data, reply, frame, sums);
     Played {
         rig: end,
-        answer: Answer::Played,
+        answer: Ok(()),
     }
 }

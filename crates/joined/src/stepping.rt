@@ -9,6 +9,7 @@ use rules::Chip;
 use sheet::steps::{most_frames, step_at};
 
 // From the beginning of a step to the beginning of the next, or the end.
+// stays: what is lent goes on one by one, for the ground given at `turn::turn`.
 pub(crate) fn step_through(
     chip: Chip,
     sheet: &[u8],
@@ -23,17 +24,13 @@ pub(crate) fn step_through(
     requires { StepReady chip sheet.now (rigged r held.old code.old «data».old reply.old frame.old sums.old) }
     ensures { rigged result held.new code.new «data».new reply.new frame.new sums.new ≡ (step_run clean chip sheet.now 0 (rigged r held.old code.old «data».old reply.old frame.old sums.old)).reached }
 {
-    let p = r.player;
-    let most = most_frames(step_at(chip, sheet, p.step));
+    let most = most_frames(step_at(chip, sheet, r.player.step));
     let mut rig = r;
-    let mut i = 0;
-    while i < most {
+    for _turn in 0..most {
         rig = turn::turn(chip, sheet, rig, held, code, data, reply, frame, sums);
-        let now = rig.player;
-        if turn::between(now) {
+        if turn::between(rig.player) {
             return rig;
         }
-        i += 1;
     }
     rig
 }

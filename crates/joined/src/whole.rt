@@ -5,12 +5,11 @@ ghost use Rattle.joined.specs.Rigs.{rigged};
 ghost use Rattle.joined.specs.Plays.{is_over, answer_number, sheet_outcome, played_to, all_played, sheet_played, given, Stands};
 ghost use Rattle.joined.specs.Ready.{PlayReady};
 
-use super::{Answer, Played};
-use crate::Rig;
+use crate::checks::{lent_sizes, may_play};
 use crate::stepping::step_through;
-use joined_checks::LentSizes;
+use crate::{Played, Rig};
 use player_absorb::{absorb, new_player};
-use rules::{Chip, Player, Stage, Verdict};
+use rules::{Chip, Player, Stage};
 use sheet::table::count;
 use standin_state::Core;
 
@@ -18,39 +17,11 @@ use standin_state::Core;
 pub fn is_over(p: Player) -> bool
     ensures { result ≡ is_over p.stage }
 {
-    let stage = p.stage;
-    match stage {
-        Stage::New => false,
-        Stage::Ready => false,
-        Stage::Block => false,
-        Stage::Commanded(_) => false,
-        Stage::Page(_) => false,
-        Stage::Paged(_) => false,
-        Stage::Over => true,
-    }
-}
-
-// The frames that a count has grown by; 0 where it has not.
-fn grown(before: usize, after: usize) -> usize
-    ensures { result ≡ after - before }
-{
-    if after < before {
-        return 0;
-    }
-    after - before
-}
-
-fn put_frames(each: &mut [usize; 64], i: usize, frames: usize)
-    ensures { each.new ≡ set each.old i frames }
-{
-    // asked for its length, the list is known to have 64 entries
-    let all: &[usize] = &*each;
-    if i < all.len() {
-        each[i] = frames;
-    }
+    matches!(p.stage, Stage::Over)
 }
 
 // All steps of an accepted sheet, up to the first that fails, and the frames of each.
+// stays: what is lent goes on one by one, for the ground given at `turn::turn`.
 fn steps_through(
     chip: Chip,
     sheet: &[u8],
@@ -66,31 +37,23 @@ fn steps_through(
     requires { PlayReady chip sheet.now (rigged r held.old code.old «data».old reply.old frame.old sums.old) }
     ensures { played_to (rigged result held.new code.new «data».new reply.new frame.new sums.new) each.new ≡ all_played chip sheet.now (rigged r held.old code.old «data».old reply.old frame.old sums.old) each.old }
 {
-    let new = r.player;
-    let core = r.core;
     // the first call of a play reads no reply
-    let begun = absorb(chip, sheet, new, &reply[0..0], sums);
-    let mut rig = Rig {
-        player: begun,
-        core,
-        arrived: r.arrived,
-    };
+    let begun = absorb(chip, sheet, r.player, &[], sums);
+    let mut rig = Rig { player: begun, ..r };
     let n = count(sheet);
-    let mut i = 0;
-    while i < n {
-        let now = rig.player;
-        if is_over(now) {
+    for took in each[..n].iter_mut() {
+        if is_over(rig.player) {
             return rig;
         }
+        let before = rig.player.frames;
         rig = step_through(chip, sheet, rig, held, code, data, reply, frame, sums);
-        let then = rig.player;
-        put_frames(each, i, grown(now.frames, then.frames));
-        i += 1;
+        *took = rig.player.frames.saturating_sub(before);
     }
     rig
 }
 
 // A new player plays the whole sheet, and each step's frames are kept. Where it is not played, all stands, to the byte.
+// stays: what is lent goes on one by one, for the ground given at `turn::turn`.
 pub fn play(
     chip: Chip,
     sheet: &[u8],
@@ -108,34 +71,22 @@ pub fn play(
     ensures stands { Stands result.answer (given (record { player = new_player; core = c; arrived = 0 }) held.old code.old «data».old reply.old frame.old sums.old) (given result.rig held.new code.new «data».new reply.new frame.new sums.new) }
     ensures stands_2 { Stands result.answer each.old each.new }
 {
-    let p = new_player();
     let rig = Rig {
-        player: p,
+        player: new_player(),
         core: c,
         arrived: 0,
     };
-    let lent = LentSizes {
-        code: code.len(),
-        data: data.len(),
-        reply: reply.len(),
-        frame: frame.len(),
-        sums: sums.len(),
-    };
-    if let Verdict::Refused(refusal) = joined_checks::refusal(chip, sheet, p, lent) {
+    let lent = lent_sizes(&*code, &*data, &*reply, &*frame, &*sums);
+    // a new player starts at the sheet's beginning
+    if let Err(why) = may_play(chip, sheet, rig, true, &*held, lent) {
         return Played {
             rig,
-            answer: Answer::Refused(refusal),
-        };
-    }
-    if !joined_checks::waits(chip, c, &*held) {
-        return Played {
-            rig,
-            answer: Answer::Busy,
+            answer: Err(why),
         };
     }
     let end = steps_through(chip, sheet, rig, held, code, data, reply, frame, sums, each);
     Played {
         rig: end,
-        answer: Answer::Played,
+        answer: Ok(()),
     }
 }

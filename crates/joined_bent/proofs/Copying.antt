@@ -20,7 +20,7 @@ use Rattle.rules.specs.declared.Phase.TheVariants.{Command}
 use Rattle.rules.specs.declared.Step.{Step}
 use Rattle.rules.specs.declared.Task.{Task}
 use Rattle.rules.specs.declared.Task.TheVariants.{Idle, Programming}
-use Rattle.rules.specs.declared.Verdict.TheVariants.{Accepted}
+use Rattle.rules.specs.Answers.{Accepted}
 use Rattle.rules.specs.Chip.{Memory, page_size, first_page, put_page}
 use Rattle.rules.specs.Frame.{one, pair}
 use Rattle.rules.specs.StandIn.{State, Out, out, rest, ahead, later, page_written}

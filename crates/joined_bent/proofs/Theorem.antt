@@ -17,7 +17,7 @@ use Rattle.rules.specs.declared.Report.{Report}
 use Rattle.rules.specs.declared.Stage.TheVariants.{Over}
 use Rattle.rules.specs.declared.Status.TheVariants.{Byte, L1}
 use Rattle.rules.specs.declared.Task.TheVariants.{Idle}
-use Rattle.rules.specs.declared.Verdict.TheVariants.{Accepted}
+use Rattle.rules.specs.Answers.{Accepted}
 use Rattle.rules.specs.StandIn.{Out, powered, feed, rest}
 use Rattle.rules.specs.Sheet.{verdict, step_at}
 use Rattle.rules.specs.Meaning.{Ended, meaning_from}

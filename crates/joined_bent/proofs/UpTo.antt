@@ -14,7 +14,7 @@ use Rattle.rules.specs.declared.Options.{Options}
 use Rattle.rules.specs.declared.Player.{Player}
 use Rattle.rules.specs.declared.Stage.TheVariants.{New, Over}
 use Rattle.rules.specs.declared.Step.{Step}
-use Rattle.rules.specs.declared.Verdict.TheVariants.{Accepted}
+use Rattle.rules.specs.Answers.{Accepted}
 use Rattle.rules.specs.Chip.{Memory}
 use Rattle.rules.specs.Options.{IFPR}
 use Rattle.rules.specs.StandIn.{feed}

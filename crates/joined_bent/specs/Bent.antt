@@ -8,7 +8,7 @@ use Rattle.rules.specs.declared.Options.{Options}
 use Rattle.rules.specs.declared.Stage.TheVariants.{New, Over}
 use Rattle.rules.specs.declared.Status.TheVariants.{L1}
 use Rattle.rules.specs.declared.Step.{Step}
-use Rattle.rules.specs.declared.Verdict.TheVariants.{Accepted}
+use Rattle.rules.specs.Answers.{Accepted}
 use Rattle.rules.specs.Chip.{Memory, byte_at, ident_of, first_page, put_page}
 use Rattle.rules.specs.Options.{IFPR}
 use Rattle.rules.specs.StandIn.{powered, feed}

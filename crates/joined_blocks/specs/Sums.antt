@@ -5,7 +5,7 @@ use Rattle.rules.specs.declared.Chip.{Chip}
 use Rattle.rules.specs.declared.Flash.{Flash}
 use Rattle.rules.specs.declared.Address.{Address}
 use Rattle.rules.specs.declared.Block.{Block}
-use Rattle.rules.specs.declared.Range.TheVariants.{Blocks}
+use Rattle.rules.specs.Answers.{Blocks}
 use Rattle.rules.specs.Chip.{Memory, known, block, blocks, blocks_from, first_byte, last_byte, address_bytes, word_bytes, range, bytes_from, checksum}
 use Rattle.rules.specs.Frame.{data_start, last_end, frame}
 use Rattle.rules.specs.Command.{checksum_code, ack}

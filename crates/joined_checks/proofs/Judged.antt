@@ -8,7 +8,7 @@ use Rattle.rules.specs.declared.Chip.{Chip}
 use Rattle.rules.specs.declared.Player.{Player}
 use Rattle.rules.specs.declared.Refusal.{Refusal}
 use Rattle.rules.specs.declared.Refusal.TheVariants.{P1, P2}
-use Rattle.rules.specs.declared.Verdict.TheVariants.{Accepted, Refused}
+use Rattle.rules.specs.Answers.{Accepted, Refused}
 use Rattle.rules.specs.First.{first}
 use Rattle.rules.specs.StandIn.{lent_verdict}
 use Rattle.rules.specs.Sheet.{verdict}

@@ -1,6 +1,6 @@
 -- Whether a stand-in waits for a command, test by test. Assumes nothing.
-use mathlib.Core.Path.{◌≡◌, refl, sym}
-use mathlib.Core.Bool.{Bool, true, false, cond, ◌||◌, false≢true}
+use mathlib.Core.Path.{◌≡◌, refl}
+use mathlib.Core.Bool.{Bool, true, false, cond, ◌||◌}
 use mathlib.Core.List.{List, [], ◌∷◌}
 use Prim.Native.Nat.{ℕ, zero, suc, ◌<◌}
 use native.Mathlib.Omega.{arith}
@@ -15,36 +15,26 @@ use Rattle.rules.specs.Frame.{frame_size, len_of}
 use Rattle.rules.specs.StandIn.{received}
 use Rattle.rules.specs.Run.{waits_in}
 use Rattle.standin_engine.specs.View.{held_count}
-use Rattle.joined_checks.specs.Checks.{is_command, is_idle}
 
 -- ---- phase and command begun ----
 
-pub other_phase : (ph : Phase) (t : Task) (g : List ℕ) → is_command ph ≡ false → false ≡ waits_in ph t g
+pub other_phase : (ph : Phase) (t : Task) (g : List ℕ) → (ph ≡ Command → ⊥) → waits_in ph t g ≡ false
 unfolding waits_in
-other_phase Mode t g e = refl
-other_phase Speed t g e = refl
-other_phase Ident t g e = refl
-other_phase Command t g e = absurd (false≢true (sym e))
-other_phase Silent t g e = refl
+other_phase Mode t g n = refl
+other_phase Speed t g n = refl
+other_phase Ident t g n = refl
+other_phase Command t g n = absurd (n refl)
+other_phase Silent t g n = refl
 
-pub task_begun : (ph : Phase) (t : Task) (g : List ℕ) → is_command ph ≡ true → is_idle t ≡ false → false ≡ waits_in ph t g
+pub task_begun : (ph : Phase) (t : Task) (g : List ℕ) → (t ≡ Idle → ⊥) → waits_in ph t g ≡ false
 unfolding waits_in
-task_begun Command (Programming p) g e f = refl
-task_begun Command (Verifying p) g e f = refl
-task_begun Command Idle g e f = absurd (false≢true (sym f))
-task_begun Mode t g e f = absurd (false≢true e)
-task_begun Speed t g e f = absurd (false≢true e)
-task_begun Ident t g e f = absurd (false≢true e)
-task_begun Silent t g e f = absurd (false≢true e)
-
-by_got : (ph : Phase) (t : Task) (g : List ℕ) → is_command ph ≡ true → is_idle t ≡ true → waits_in Command Idle g ≡ waits_in ph t g
-by_got Command Idle g e f = refl
-by_got Command (Programming p) g e f = absurd (false≢true f)
-by_got Command (Verifying p) g e f = absurd (false≢true f)
-by_got Mode t g e f = absurd (false≢true e)
-by_got Speed t g e f = absurd (false≢true e)
-by_got Ident t g e f = absurd (false≢true e)
-by_got Silent t g e f = absurd (false≢true e)
+task_begun Command (Programming p) g n = refl
+task_begun Command (Verifying p) g n = refl
+task_begun Command Idle g n = absurd (n refl)
+task_begun Mode t g n = refl
+task_begun Speed t g n = refl
+task_begun Ident t g n = refl
+task_begun Silent t g n = refl
 
 -- ---- what is half received ----
 
@@ -55,14 +45,10 @@ first_none zero b h = refl
 first_none (suc n) [] h = absurd (omega arith)
 first_none (suc n) (x ∷ b) h = ne_eqb (suc n) 0 (λ e. omega arith)
 
-held_none : (n : ℕ) (b : List ℕ) → 0 < length b → eqb (held_count n b) 0 ≡ waits_in Command Idle (received n b)
+pub held_none : (n : ℕ) (b : List ℕ) → 0 < length b → eqb (held_count n b) 0 ≡ waits_in Command Idle (received n b)
 unfolding held_count received waits_in
 held_none n b h = go (ltb n 2 || ltb n (frame_size (len_of b)))
   where
     go : (t : Bool) → eqb (cond t n 0) 0 ≡ waits_in Command Idle (cond t (take n b) [])
     go true = first_none n b h
     go false = refl
-
-pub waits_held : (ph : Phase) (t : Task) (n : ℕ) (b : List ℕ) → is_command ph ≡ true → is_idle t ≡ true → 0 < length b
-    → eqb (held_count n b) 0 ≡ waits_in ph t (received n b)
-waits_held ph t n b e f h = rw (held_none n b h) (by_got ph t (received n b) e f)

@@ -1,14 +1,10 @@
 -- What has to be before a step or a sheet is played: which refusal is named, and which tests are made. Assumes nothing.
 use Rattle.std.specs.Prelude.{ℕ, ◌+◌, Bool, true, false, ◌&&◌, List, leb}
 use Rattle.rules.specs.declared.Chip.{Chip}
-use Rattle.rules.specs.declared.Phase.{Phase}
-use Rattle.rules.specs.declared.Phase.TheVariants.{Mode, Speed, Ident, Command, Silent}
 use Rattle.rules.specs.declared.Player.{Player}
 use Rattle.rules.specs.declared.Stage.{Stage}
 use Rattle.rules.specs.declared.Stage.TheVariants.{New, Ready, Block, Commanded, Page, Paged, Over}
-use Rattle.rules.specs.declared.Task.{Task}
-use Rattle.rules.specs.declared.Task.TheVariants.{Idle, Programming, Verifying}
-use Rattle.rules.specs.declared.Verdict.{Verdict}
+use Rattle.rules.specs.Answers.{Verdict}
 use Rattle.rules.specs.StandIn.{lent_verdict}
 use Rattle.rules.specs.First.{and_then}
 use Rattle.rules.specs.Sheet.{step_at}
@@ -35,15 +31,3 @@ is_ready Over = false
 unfoldable pub starts_step : Chip → List ℕ → Player → Bool
 starts_step chip s p =
     is_ready p.stage && leb (p.frames + most_frames (step_at chip s p.step)) 0xFFFFFFFF
-
-abbrev pub is_command : Phase → Bool
-is_command Mode = false
-is_command Speed = false
-is_command Ident = false
-is_command Command = true
-is_command Silent = false
-
-abbrev pub is_idle : Task → Bool
-is_idle Idle = true
-is_idle (Programming p) = false
-is_idle (Verifying p) = false

@@ -9,7 +9,7 @@ use lib.ListN.{length, set}
 use Rattle.rules.specs.declared.Chip.{Chip}
 use Rattle.rules.specs.declared.Options.{Options}
 use Rattle.rules.specs.declared.Stage.TheVariants.{New}
-use Rattle.rules.specs.declared.Verdict.TheVariants.{Accepted}
+use Rattle.rules.specs.Answers.{Accepted}
 use Rattle.rules.specs.Chip.{Memory}
 use Rattle.rules.specs.Sheet.{count, verdict, step_at}
 use Rattle.rules.specs.Player.{report_of}

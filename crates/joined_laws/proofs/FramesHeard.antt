@@ -12,8 +12,7 @@ use Rattle.rules.specs.declared.Flash.{Flash}
 use Rattle.rules.specs.declared.Flash.TheVariants.{Code, Data}
 use Rattle.rules.specs.declared.Address.{Address}
 use Rattle.rules.specs.declared.Block.{Block}
-use Rattle.rules.specs.declared.Found.TheVariants.{In}
-use Rattle.rules.specs.declared.Range.TheVariants.{Blocks}
+use Rattle.rules.specs.Answers.{In, Blocks, Row, Is, Judged, Ordered}
 use Rattle.rules.specs.declared.Step.{Step}
 use Rattle.rules.specs.declared.Options.{Options}
 use Rattle.rules.specs.declared.Phase.{Phase}
@@ -21,9 +20,7 @@ use Rattle.rules.specs.declared.Phase.TheVariants.{Mode, Speed, Ident, Command, 
 use Rattle.rules.specs.declared.Pages.{Pages}
 use Rattle.rules.specs.declared.Task.{Task}
 use Rattle.rules.specs.declared.Task.TheVariants.{Idle, Programming, Verifying}
-use Rattle.rules.specs.declared.CodeRow.TheVariants.{Row}
-use Rattle.rules.specs.declared.Fault.{Fault}
-use Rattle.rules.specs.declared.Fault.TheVariants.{Well, NotBlank, Protected}
+use Rattle.rules.specs.Faults.{Fault, Well, NotBlank, Protected}
 use Rattle.rules.specs.Chip.{Memory, address_bytes, blocks, first_byte, last_byte, word_bytes, blank, erase_block, bytes_from, checksum, page_of, erase_address, range}
 use Rattle.rules.specs.Options.{IFPR, erase_protected, security_set}
 use Rattle.rules.specs.First.{first_fault, first}
@@ -32,9 +29,6 @@ use Rattle.rules.specs.Command.{phase_number, rows, lookup, allowed, len_due, co
 use Rattle.rules.specs.StandIn.{State, Fed, out, rest, start_of, task_now, on_frame, on_task, on_command, refused, ahead, last_page, later, page_guarded, page_fault, page_written, on_page, compared, on_compare, on_judged}
 use Rattle.rules.specs.declared.Order.{Order}
 use Rattle.rules.specs.declared.Order.TheVariants.{Verify, Erase, BlankCheck, Program, SecuritySet, Checksum}
-use Rattle.rules.specs.declared.Decoded.TheVariants.{Is}
-use Rattle.rules.specs.declared.Judged.{Judged}
-use Rattle.rules.specs.declared.Judged.TheVariants.{Ordered}
 use Rattle.rules.specs.Player.{command, pair_bytes, pair_command, blank_command, lock_command}
 use Rattle.rules.specs.Run.{all_bytes, waits_in, waits, settled}
 use Rattle.chip_finder.proofs.ThereAndBack.{erase_there, range_there}

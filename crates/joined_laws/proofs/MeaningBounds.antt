@@ -1,5 +1,5 @@
 -- How large the numbers of a report can be, by the meaning alone: no step has more frames than it can take, nor more pieces. Assumes nothing.
-use mathlib.Core.Path.{◌≡◌, refl}
+use mathlib.Core.Path.{◌≡◌}
 use mathlib.Core.Bool.{Bool, true, false, cond, ◌&&◌}
 use mathlib.Core.List.{List, [], ◌∷◌}
 use Prim.Native.Nat.{ℕ, zero, suc, ◌+◌, ◌-◌, ◌*◌, ◌<◌, ◌≤◌, min}
@@ -11,11 +11,11 @@ use Rattle.rules.specs.declared.Kind.{Kind}
 use Rattle.rules.specs.declared.Kind.TheVariants.{Erase, Write, Verify, Sum, Blank, Lock}
 use Rattle.rules.specs.declared.Options.{Options}
 use Rattle.rules.specs.declared.Step.{Step}
-use Rattle.rules.specs.declared.Verdict.TheVariants.{Accepted}
+use Rattle.rules.specs.Answers.{Accepted}
 use Rattle.rules.specs.Chip.{Memory, blank, block, erase_block, first_page, page_of, put_page, block_of_page}
 use Rattle.rules.specs.Options.{erase_protected, write_protected}
 use Rattle.rules.specs.Sheet.{count, verdict, step_at, step_blocks, step_pages, body_page}
-use Rattle.rules.specs.Meaning.{Tried, tried, erase_from, write_from, Done, erase_done, write_pieces, write_done, step_done, step_meaning, options_after, Ended, ended, meaning_from, meaning, step_frames_from, step_frames}
+use Rattle.rules.specs.Meaning.{Tried, tried, erase_from, write_from, Done, erase_done, write_done, step_done, step_meaning, options_after, Ended, ended, meaning_from, meaning, step_frames_from, step_frames}
 use Rattle.rules.specs.Run.{most_for, most_frames}
 use Rattle.sheet.proofs.Accepted.{sound}
 use Rattle.joined_laws.specs.Turns.{Sized}

@@ -10,7 +10,7 @@ use lib.Seq.{take-add, drop-drop, length-take-le}
 use borrow.Author.Tests.{eqb-true, eqb-false, leb-false, eq-eqb, ne_eqb}
 use Rattle.rules.specs.declared.Options.{Options}
 use Rattle.rules.specs.declared.Pages.{Pages}
-use Rattle.rules.specs.declared.Fault.TheVariants.{Difference}
+use Rattle.rules.specs.Faults.{Difference}
 use Rattle.rules.specs.declared.Kind.{Kind}
 use Rattle.rules.specs.declared.Kind.TheVariants.{Erase, Write, Verify, Sum, Blank, Lock}
 use Rattle.rules.specs.declared.Step.{Step}

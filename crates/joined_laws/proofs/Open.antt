@@ -1,10 +1,10 @@
 -- IFPR: a lock that clears it makes it 0, and nothing else does; a chip that is not Silent has it 1, whatever bytes it is fed after a power-on.
 -- Assumes nothing.
 use mathlib.Core.Path.{◌≡◌, refl, sym, ap, ◌∙◌}
-use mathlib.Core.Bool.{Bool, true, false, cond, ◌&&◌}
+use mathlib.Core.Bool.{Bool, true, false, ◌&&◌}
 use mathlib.Core.List.{List, [], ◌∷◌, ◌++◌}
 use mathlib.Core.Logic.{◌⊎◌, inl, inr}
-use Prim.Native.Nat.{ℕ, ◌*◌, ◌<◌}
+use Prim.Native.Nat.{ℕ, zero, suc, ◌*◌, ◌<◌}
 use native.Mathlib.Omega.{arith}
 use lib.Dec.{eqb}
 use borrow.Author.Tests.{eqb-true, eqb-false, eq-eqb}
@@ -17,18 +17,16 @@ use Rattle.rules.specs.declared.Phase.{Phase}
 use Rattle.rules.specs.declared.Phase.TheVariants.{Mode, Speed, Ident, Command, Silent}
 use Rattle.rules.specs.declared.Order.{Order}
 use Rattle.rules.specs.declared.Order.TheVariants.{Reset, Verify as VerifyOrder, Erase as EraseOrder, BlankCheck, Program, BaudRate, Identity, SecuritySet, SecurityGet, Release, WindowSet, WindowGet, Checksum}
-use Rattle.rules.specs.declared.Judged.{Judged}
-use Rattle.rules.specs.declared.Judged.TheVariants.{Faulty, Ordered}
-use Rattle.rules.specs.declared.Pages.{Pages}
+use Rattle.rules.specs.Answers.{Judged, Faulty, Ordered}
 use Rattle.rules.specs.declared.Step.{Step}
 use Rattle.rules.specs.declared.Task.{Task}
 use Rattle.rules.specs.declared.Task.TheVariants.{Idle, Programming, Verifying}
 use Rattle.rules.specs.Chip.{Memory}
-use Rattle.rules.specs.Options.{IFPR, bit, with_bit, and_bit, security_set, release, window_set}
+use Rattle.rules.specs.Options.{IFPR, bit, with_bit, and_bit, security_set, window_set}
 use Rattle.rules.specs.Frame.{status_byte, data_fault, whole}
 use Rattle.rules.specs.Command.{secured, done}
 use Rattle.rules.specs.Sheet.{clears}
-use Rattle.rules.specs.StandIn.{State, Out, rest, start_of, on_command, last_page, on_page, on_compare, ahead, task_now, on_task, on_frame, receive, takes, step, feed, powered, on_judged}
+use Rattle.rules.specs.StandIn.{State, Out, rest, start_of, on_command, last_page, on_page, on_compare, task_now, on_task, on_frame, receive, takes, step, feed, powered, on_judged}
 use Rattle.rules.specs.Meaning.{options_by, options_after}
 use Rattle.rules.specs.Run.{waits_in, waits}
 use Rattle.rules.proofs.Choices.{chosen}
@@ -40,23 +38,11 @@ use Rattle.rules.proofs.OptionBits.{ifpr_set}
 pub ifpr_one : (o : Options) → (IFPR o ≡ 0 → ⊥) → IFPR o ≡ 1
 ifpr_one o n = omega (arith, n)
 
-two_bits : (a b : ℕ) → bit 2 a * bit 2 b < 2
-two_bits a b = go (eqb (bit 2 b) 0) refl
-  where
-    go : (t : Bool) → eqb (bit 2 b) 0 ≡ t → bit 2 a * bit 2 b < 2
-    go true e = rw (eqb-true (bit 2 b) 0 e) (omega arith)
-    go false e =
-        let one : bit 2 b ≡ 1 = omega (arith, eqb-false (bit 2 b) 0 e) in
-        rw one (omega arith)
-
-bit_zero : (a b : ℕ) → bit 0 a * bit 0 b < 2
-bit_zero a b = go (eqb (bit 0 b) 0) refl
-  where
-    go : (t : Bool) → eqb (bit 0 b) 0 ≡ t → bit 0 a * bit 0 b < 2
-    go true e = rw (eqb-true (bit 0 b) 0 e) (omega arith)
-    go false e =
-        let one : bit 0 b ≡ 1 = omega (arith, eqb-false (bit 0 b) 0 e) in
-        rw one (omega arith)
+-- the product of two bits is a bit
+bits_product : (x y : ℕ) → x < 2 → y < 2 → x * y < 2
+bits_product x zero h g = omega arith
+bits_product x (suc zero) h g = omega arith
+bits_product x (suc (suc y)) h g = absurd (omega arith)
 
 set_2 : (v n : ℕ) → v < 2 → bit 2 (with_bit 2 v n) ≡ v
 set_2 v n h = omega arith
@@ -69,8 +55,8 @@ ifpr_and : (sf1 sf2 : ℕ) (o : Options) → IFPR (security_set sf1 sf2 o) ≡ I
 unfolding security_set
 ifpr_and sf1 sf2 o =
     let low = and_bit 0 sf2 o.sf2 in
-    set_2 (bit 2 low * bit 2 sf2) low (two_bits low sf2)
-    ∙ ap (λ (b : ℕ). b * bit 2 sf2) (kept_2 (bit 0 o.sf2 * bit 0 sf2) o.sf2 (bit_zero o.sf2 sf2))
+    set_2 (bit 2 low * bit 2 sf2) low (bits_product (bit 2 low) (bit 2 sf2) (omega arith) (omega arith))
+    ∙ ap (λ (b : ℕ). b * bit 2 sf2) (kept_2 (bit 0 o.sf2 * bit 0 sf2) o.sf2 (bits_product (bit 0 o.sf2) (bit 0 sf2) (omega arith) (omega arith)))
 
 module _ (o : Options) (f : Flags) where
   -- a lock that clears it

@@ -15,7 +15,7 @@ use Rattle.rules.specs.declared.Options.{Options}
 use Rattle.rules.specs.declared.Phase.{Phase}
 use Rattle.rules.specs.declared.Phase.TheVariants.{Speed, Ident, Command}
 use Rattle.rules.specs.declared.Task.TheVariants.{Idle}
-use Rattle.rules.specs.declared.CodeRow.TheVariants.{Row}
+use Rattle.rules.specs.Answers.{Row}
 use Rattle.rules.specs.declared.Order.TheVariants.{BaudRate, Identity}
 use Rattle.rules.specs.Chip.{Memory, total, same, blocks, ident_at, ident_size, ident_of}
 use Rattle.rules.specs.Options.{IDEN, IFPR}

@@ -8,18 +8,16 @@ use lib.Dec.{eqb}
 use borrow.Author.Tests.{eq-eqb, ne_eqb}
 use Rattle.rules.specs.declared.Chip.{Chip}
 use Rattle.rules.specs.declared.Options.{Options}
-use Rattle.rules.specs.declared.Phase.{Phase}
 use Rattle.rules.specs.declared.Phase.TheVariants.{Command}
 use Rattle.rules.specs.declared.Task.TheVariants.{Idle}
-use Rattle.rules.specs.declared.Fault.{Fault}
-use Rattle.rules.specs.declared.Fault.TheVariants.{NotBlank, Protected}
-use Rattle.rules.specs.declared.Note.TheVariants.{Empty}
+use Rattle.rules.specs.Faults.{NotBlank, Protected}
+use Rattle.rules.specs.Notes.{Empty}
 use Rattle.rules.specs.declared.Order.TheVariants.{Release}
 use Rattle.rules.specs.Chip.{Memory, byte_at, total, known, blank_memory, ident_of}
 use Rattle.rules.specs.Options.{BTPR, SEPR, IDEN, IFPR, release}
-use Rattle.rules.specs.Frame.{status_byte, sum_byte, frame, one}
+use Rattle.rules.specs.Frame.{sum_byte, frame, one}
 use Rattle.rules.specs.Command.{commands, rows, lookup, read_as, order_checks, ack, done}
-use Rattle.rules.specs.StandIn.{State, Out, out, rest, refused, feed, powered}
+use Rattle.rules.specs.StandIn.{State, Out, out, rest, feed, powered}
 use Rattle.rules.specs.Run.{waits}
 use Rattle.rules.proofs.First.{applies, passed, none_applies}
 use Rattle.rules.proofs.OptionBits.{iden_stays, ifpr_set}

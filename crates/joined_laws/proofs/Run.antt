@@ -14,7 +14,7 @@ use Rattle.rules.specs.declared.Flash.TheVariants.{Code, Data}
 use Rattle.rules.specs.declared.Player.{Player}
 use Rattle.rules.specs.declared.Report.{Report}
 use Rattle.rules.specs.declared.Stage.TheVariants.{New, Over}
-use Rattle.rules.specs.declared.Verdict.TheVariants.{Accepted}
+use Rattle.rules.specs.Answers.{Accepted}
 use Rattle.rules.specs.Chip.{small, large, known, start, blocks, flash_size}
 use Rattle.rules.specs.Options.{IFPR}
 use Rattle.rules.specs.Sheet.{count, verdict, step_at}

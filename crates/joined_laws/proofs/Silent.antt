@@ -1,31 +1,29 @@
 -- After a play the chip is Silent exactly where the last step was a lock that clears IFPR. Assumes nothing.
 use mathlib.Core.Path.{◌≡◌, refl, sym, ap, ◌∙◌}
-use mathlib.Core.Bool.{Bool, true, false, cond, false≢true}
+use mathlib.Core.Bool.{Bool, true, false, false≢true}
 use mathlib.Core.List.{List}
-use Prim.Native.Nat.{ℕ, zero, suc, ◌+◌, ◌-◌, ◌<◌}
+use Prim.Native.Nat.{ℕ, zero, suc, ◌+◌}
 use native.Mathlib.Omega.{arith}
 use lib.Dec.{eqb}
 use lib.ListN.{length, set}
-use borrow.Author.Tests.{eqb-true, eqb-false, eq-eqb, ne_eqb}
+use borrow.Author.Tests.{eqb-true, eqb-false, ne_eqb}
 use Rattle.rules.specs.declared.Chip.{Chip}
 use Rattle.rules.specs.declared.Kind.{Kind}
 use Rattle.rules.specs.declared.Kind.TheVariants.{Erase, Write, Verify, Sum, Blank, Lock}
 use Rattle.rules.specs.declared.Options.{Options}
 use Rattle.rules.specs.declared.Phase.{Phase}
 use Rattle.rules.specs.declared.Phase.TheVariants.{Mode, Speed, Ident, Command, Silent}
-use Rattle.rules.specs.declared.Report.{Report}
 use Rattle.rules.specs.declared.Stage.TheVariants.{New}
-use Rattle.rules.specs.declared.Status.{Status}
 use Rattle.rules.specs.declared.Status.TheVariants.{Byte}
 use Rattle.rules.specs.declared.Step.{Step}
-use Rattle.rules.specs.declared.Verdict.TheVariants.{Accepted}
+use Rattle.rules.specs.Answers.{Accepted}
 use Rattle.rules.specs.Chip.{Memory}
 use Rattle.rules.specs.Options.{IFPR}
 use Rattle.rules.specs.StandIn.{State}
 use Rattle.rules.specs.Sheet.{count, verdict, clears, step_at}
 use Rattle.rules.specs.Meaning.{Done, Ended, step_done, step_meaning, options_by, options_after, meaning_from, meaning}
 use Rattle.rules.specs.Player.{report_of}
-use Rattle.rules.specs.Run.{clean, Joined, Ran, run, is_silent, waits, settled}
+use Rattle.rules.specs.Run.{clean, Joined, run, is_silent, waits, settled}
 use Rattle.sheet.proofs.Accepted.{sound}
 use Rattle.joined_laws.specs.Turns.{Fit}
 use Rattle.joined_laws.specs.Silent.{LastClears, SilentExactly}

@@ -12,7 +12,7 @@ use Rattle.rules.specs.declared.Flash.TheVariants.{Code, Data}
 use Rattle.rules.specs.declared.Kind.{Kind}
 use Rattle.rules.specs.declared.Kind.TheVariants.{Erase, Write, Verify, Sum, Blank, Lock}
 use Rattle.rules.specs.declared.Step.{Step}
-use Rattle.rules.specs.declared.Verdict.TheVariants.{Accepted}
+use Rattle.rules.specs.Answers.{Accepted}
 use Rattle.rules.specs.declared.Block.{Block}
 use Rattle.rules.specs.declared.Pages.{Pages}
 use Rattle.rules.specs.Chip.{blocks, pages, pages_per_block, pages_from, first_page, Memory, flash_of, with_flash, flash_size, block_size, blank_byte, page_size, page_of, put_part, erase_block}

@@ -12,14 +12,14 @@ use Rattle.rules.specs.declared.Options.{Options}
 use Rattle.rules.specs.declared.Phase.{Phase}
 use Rattle.rules.specs.declared.Phase.TheVariants.{Command}
 use Rattle.rules.specs.declared.Step.{Step}
-use Rattle.rules.specs.declared.Verdict.TheVariants.{Accepted}
+use Rattle.rules.specs.Answers.{Accepted}
 use Rattle.rules.specs.Chip.{Memory}
 use Rattle.rules.specs.StandIn.{State, rest}
 use Rattle.rules.specs.Sheet.{verdict, step_at}
 use Rattle.rules.specs.Player.{emitted}
 use Rattle.rules.specs.Run.{clean, Joined, turned, ran, none, run_from, step_from, most_for, most_frames, step_run, waits}
 use Rattle.sheet.proofs.Accepted.{Sound, sound}
-use Rattle.joined_laws.specs.Turns.{Sized, AtBeginning, Leaves, leaves, step_leaves, StepEnds, StepRuns}
+use Rattle.joined_laws.specs.Turns.{Sized, AtBeginning, Leaves, step_leaves, StepEnds, StepRuns}
 use Rattle.joined_laws.proofs.MeaningSteps.{erase_means}
 use Rattle.joined_laws.proofs.FramesHeard.{waiting_phase, waiting_got, waiting_open}
 use Rattle.joined_laws.proofs.Turns.{Begun, At, AtBlock, AtOpen, AtOnce, Mid, Turned, Ends, Goes, mid_frame, turn, sum_once, blank_once, lock_once}

@@ -24,7 +24,7 @@ use Rattle.rules.specs.declared.Status.TheVariants.{Byte}
 use Rattle.rules.specs.declared.Step.{Step}
 use Rattle.rules.specs.declared.Task.{Task}
 use Rattle.rules.specs.declared.Task.TheVariants.{Idle, Programming, Verifying}
-use Rattle.rules.specs.declared.Verdict.TheVariants.{Accepted}
+use Rattle.rules.specs.Answers.{Accepted}
 use Rattle.rules.specs.Chip.{Memory, word_bytes, blank, over, blocks, block, erase_block, pages, page_size, first_page, bytes_from, checksum}
 use Rattle.rules.specs.Options.{IFPR, erase_protected, security_set}
 use Rattle.rules.specs.Frame.{data_start, last_end, end_due, len_byte, sum_byte, frame, one, pair}

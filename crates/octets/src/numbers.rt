@@ -9,45 +9,33 @@ use rules::Address;
 pub fn byte_at(s: &[u8], i: usize) -> u8
     ensures { result ≡ byte_at s.now i }
 {
-    if i < s.len() {
-        return s[i];
-    }
-    0
+    s.get(i).copied().unwrap_or(0)
 }
 
 pub fn word_of(low: u8, high: u8) -> u16
     ensures { result ≡ low + 256 * high }
 {
-    low as u16 + 256 * high as u16
+    u16::from_le_bytes([low, high])
 }
 
 pub fn address_of(low: u8, middle: u8, high: u8) -> Address
     ensures { result ≡ record { 0 = low + 256 * middle + 65536 * high } }
 {
-    Address(low as u32 + 256 * middle as u32 + 65536 * high as u32)
+    Address(u32::from_le_bytes([low, middle, high, 0]))
 }
 
 pub fn word_at(s: &[u8], i: usize) -> u16
     ensures { result ≡ word_at s.now i }
 {
-    if i < s.len() {
-        return word_of(s[i], byte_at(s, i + 1));
-    }
-    0
+    let rest = s.get(i..).unwrap_or(&[]);
+    word_of(byte_at(rest, 0), byte_at(rest, 1))
 }
 
 pub fn address_at(s: &[u8], i: usize) -> Address
     ensures { result ≡ address_at s.now i }
 {
-    if i < s.len() {
-        let low = s[i];
-        let middle = byte_at(s, i + 1);
-        if i + 1 < s.len() {
-            return address_of(low, middle, byte_at(s, i + 2));
-        }
-        return address_of(low, middle, 0);
-    }
-    Address(0)
+    let rest = s.get(i..).unwrap_or(&[]);
+    address_of(byte_at(rest, 0), byte_at(rest, 1), byte_at(rest, 2))
 }
 
 // ---- to bytes ----

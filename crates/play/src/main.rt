@@ -2,29 +2,20 @@
 // written is promised by `play_fresh` for every input.
 #![tactic(auto)]
 
-ghost use Rattle.std.specs.Prelude.{◌≡◌, length};
-
-use text_input::Input;
 use text_play::fresh::play_fresh;
 use text_read::part;
 
 // Room for the longest sheet, and for one byte more, by which a longer input is seen as such.
-fn room() -> [u8; 65541]
-    ensures { 65541 ≡ length result }
-{
-    [0; 65541]
-}
+const ROOM: usize = 65541;
 
+// stays: `main` of `show` is like it; one function for both would take the two rooms and the function that writes the text, and be no shorter.
 fn main(rt: HostRuntime) {
-    let mut sheet = room();
+    let mut sheet = [0u8; ROOM];
     let mut text = [0u8; text_told::ROOM];
-    match text_input::read(&rt, &mut sheet) {
-        Input::Read(n) => {
-            let size = play_fresh(part::between(&sheet, 0, n), &mut text);
-            io::write_all(1, part::between(&text, 0, size));
-        }
-        Input::Failed => {
-            io::write_all(2, b"play: the input cannot be read\n");
-        }
-    }
+    let Ok(n) = text_input::read(&rt, &mut sheet) else {
+        io::write_all(2, b"play: the input cannot be read\n");
+        return;
+    };
+    let size = play_fresh(part::between(&sheet, 0, n), &mut text);
+    io::write_all(1, part::between(&text, 0, size));
 }

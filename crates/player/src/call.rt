@@ -1,15 +1,15 @@
 // A player call: the reply is taken in, the next frame given.
-ghost use Rattle.std.specs.Prelude.{◌≡◌, cond, eqb};
-ghost use Rattle.rules.specs.declared.Next.TheVariants.{Refused, Frame, End};
+ghost use Rattle.std.specs.Prelude.{◌≡◌, MatchResult, cond, eqb, Some, None};
+ghost use Rattle.rules.specs.Answers.{Refused};
 ghost use Rattle.rules.specs.Numbers.{next_number, status_number};
 ghost use Rattle.rules.specs.Sheet.{step_at};
-ghost use Rattle.rules.specs.Player.{report_of, called};
-ghost use Rattle.player.specs.Calls.{called_as};
+ghost use Rattle.rules.specs.Player.{calls, called};
+ghost use Rattle.player.specs.Calls.{called_as, given_as};
 
 use crate::report::report;
 use player_absorb::absorb_or_lost;
-use player_emit::emit_step;
-use rules::{Chip, FRAME_ROOM, Next, Player, Refusal, Report, Step, Verdict};
+use player_emit::{Emitted, emit_step};
+use rules::{Chip, FRAME_ROOM, Player, Refusal, Report, Step};
 use sheet::judge::verdict;
 use sheet::steps::step_at;
 
@@ -17,28 +17,18 @@ use sheet::steps::step_at;
 #[derive(Clone, Copy)]
 pub struct Called {
     pub player: Player,
-    pub next: Next,
+    pub next: Result<Option<usize>, Refusal>,
     pub report: Report,
 }
 
-// Refused: the record stands.
-fn stands(p: Player, refusal: Refusal) -> Called
-    ensures { result ≡ record { player = p; next = Refused refusal; report = report_of p } }
+// The frame of so many bytes, or the end.
+fn frame_or_end(sent: usize) -> Option<usize>
+    ensures { result ≡ cond (eqb sent 0) None (Some sent) }
 {
-    Called {
-        player: p,
-        next: Next::Refused(refusal),
-        report: report(p),
+    match sent {
+        0 => None,
+        n => Some(n),
     }
-}
-
-fn next_of(sent: usize) -> Next
-    ensures { result ≡ cond (eqb sent 0) End (Frame sent) }
-{
-    if sent == 0 {
-        return Next::End;
-    }
-    Next::Frame(sent)
 }
 
 // Step i of the sheet, for a caller that has read step `read`: mostly it is the same one.
@@ -51,7 +41,31 @@ fn step_now(chip: Chip, sheet: &[u8], read: usize, t: Step, i: usize) -> Step
     step_at(chip, sheet, i)
 }
 
-// A player call: refused by J, P1 or P2, in that order; else the next frame or the end.
+// Refused by J, P1 or P2, in that order; else the reply is taken in and the next frame given.
+#[tactic(auto, using(crate::proofs::Refusals::refused_J, crate::proofs::Refusals::refused_P1, crate::proofs::Refusals::refused_P2))]
+fn played(
+    chip: Chip,
+    sheet: &[u8],
+    p: Player,
+    reply: &[u8],
+    frame: &mut [u8],
+    sums: &mut [u16],
+) -> Result<Emitted, Refusal>
+    ensures { MatchResult result (λ g. calls g.player (given_as g.sent) frame.new sums.new ≡ called chip sheet.now p reply.now frame.old sums.old) (λ n. calls p (Refused n) frame.new sums.new ≡ called chip sheet.now p reply.now frame.old sums.old) }
+{
+    verdict(chip, sheet, sums.len())?;
+    if frame.len() < FRAME_ROOM {
+        return Err(Refusal::P1);
+    }
+    let took = absorb_or_lost(chip, sheet, p, reply, sums);
+    let Some(after) = took.player else {
+        return Err(Refusal::P2);
+    };
+    let t = step_now(chip, sheet, p.step, took.step, after.step);
+    Ok(emit_step(took.count, sheet, t, after, frame))
+}
+
+// A player call: refused by J, P1 or P2, in that order, and the record then stands; else the next frame or the end.
 pub fn next(
     chip: Chip,
     sheet: &[u8],
@@ -64,23 +78,13 @@ pub fn next(
     ensures next_value { next_number result.next ≡ next_number (called chip sheet.now p reply.now frame.old sums.old).call }
     ensures status_value { status_number result.report.status ≡ status_number (called chip sheet.now p reply.now frame.old sums.old).report.status }
 {
-    if let Verdict::Refused(refusal) = verdict(chip, sheet, sums.len()) {
-        return stands(p, refusal);
-    }
-    if frame.len() < FRAME_ROOM {
-        return stands(p, Refusal::P1);
-    }
-    let took = absorb_or_lost(chip, sheet, p, reply, sums);
-    if took.lost {
-        return stands(p, Refusal::P2);
-    }
-    let after = took.player;
-    let t = step_now(chip, sheet, p.step, took.step, after.step);
-    let given = emit_step(took.count, sheet, t, after, frame);
-    let player = given.player;
+    let (player, next) = match played(chip, sheet, p, reply, frame, sums) {
+        Ok(given) => (given.player, Ok(frame_or_end(given.sent))),
+        Err(refusal) => (p, Err(refusal)),
+    };
     Called {
         player,
-        next: next_of(given.sent),
+        next,
         report: report(player),
     }
 }

@@ -16,29 +16,23 @@ fn counts_of(p: Player) -> Report
     }
 }
 
+#[tactic(auto, unfolding(rules::specs::Player::report_of, rules::specs::Player::report_by))]
 pub fn report(p: Player) -> Report
     ensures value { result ≡ report_of p }
     ensures status_value { status_number result.status ≡ status_number (report_of p).status }
 {
-    let stage = p.stage;
-    let status = p.status;
-    match stage {
+    match p.stage {
         Stage::New => Report {
             status: Status::Byte(0x06),
             steps: 0,
             frames: 0,
             pieces: 0,
         },
-        Stage::Ready => counts_of(p),
-        Stage::Block => counts_of(p),
-        Stage::Commanded(_) => counts_of(p),
-        Stage::Page(_) => counts_of(p),
-        Stage::Paged(_) => counts_of(p),
         Stage::Over => Report {
-            status,
-            steps: p.step,
-            frames: p.frames,
+            status: p.status,
             pieces: p.pieces,
+            ..counts_of(p)
         },
+        _ => counts_of(p),
     }
 }

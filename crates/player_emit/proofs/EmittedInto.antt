@@ -1,14 +1,13 @@
 -- The frame that is given, in its buffer: one law for each outcome; and, where the sheet is accepted and the player in it, that it is the
 -- frame of the definitions. Assumes nothing.
-use mathlib.Core.Path.{◌≡◌, refl, sym, ap, ◌∙◌}
-use mathlib.Core.Bool.{Bool, true, false}
+use mathlib.Core.Path.{◌≡◌, refl, ap, ◌∙◌}
+use mathlib.Core.Bool.{true, false}
 use mathlib.Core.List.{List}
 use mathlib.Core.Logic.{inl, inr}
-use Prim.Native.Nat.{ℕ, ◌+◌, ◌-◌, ◌*◌, ◌<◌, ◌≤◌}
+use Prim.Native.Nat.{ℕ, ◌+◌, ◌*◌, ◌<◌, ◌≤◌}
 use native.Mathlib.Omega.{arith}
-use lib.Dec.{leb}
 use lib.ListN.{length, drop, length-take}
-use borrow.Author.Tests.{lt-ltb, le-ltb, le-leb, lt-leb, leb-true, leb-false}
+use borrow.Author.Tests.{lt-ltb, le-ltb, le-leb}
 use Rattle.rules.specs.declared.Chip.{Chip}
 use Rattle.rules.specs.declared.Kind.{Kind}
 use Rattle.rules.specs.declared.Kind.TheVariants.{Write, Verify}
@@ -16,7 +15,7 @@ use Rattle.rules.specs.declared.Player.{Player}
 use Rattle.rules.specs.declared.Stage.{Stage}
 use Rattle.rules.specs.declared.Stage.TheVariants.{New, Ready, Block, Commanded, Page, Paged, Over}
 use Rattle.rules.specs.declared.Step.{Step}
-use Rattle.rules.specs.declared.Verdict.TheVariants.{Accepted}
+use Rattle.rules.specs.Answers.{Accepted}
 use Rattle.rules.specs.Chip.{over, page_size}
 use Rattle.rules.specs.Frame.{frame}
 use Rattle.rules.specs.Sheet.{count, step_at, body_page, verdict}
@@ -43,17 +42,6 @@ frame_room_lem start end body b h g = omega (arith, frame_short start end body h
 pub page_short : (s : List ℕ) (t : Step) (k : ℕ) (b : List ℕ) → 260 ≤ length b → length (page_frame s t k) ≤ length b
 page_short s t k b g =
     frame_room_lem _ _ (body_page s t k) b (omega (arith, length-take page_size (drop (t.body + k * page_size) s))) g
-
-pub page_missing : (body at n : ℕ) → n < at * 256 + 256 → leb (body + at * 256 + 256) n ≡ false
-page_missing body at n h = lt-leb (body + at * 256 + 256) n (omega arith)
-
--- counted from the other end
-pub page_behind : (body at n : ℕ) → at * 256 + 256 ≤ n → leb body (n - (at * 256 + 256)) ≡ leb (body + at * 256 + 256) n
-page_behind body at n h = go (leb body (n - (at * 256 + 256))) refl
-  where
-    go : (t : Bool) → leb body (n - (at * 256 + 256)) ≡ t → t ≡ leb (body + at * 256 + 256) n
-    go true e = let l = leb-true body (n - (at * 256 + 256)) e in sym (le-leb (body + at * 256 + 256) n (omega arith))
-    go false e = let l = leb-false body (n - (at * 256 + 256)) e in sym (lt-leb (body + at * 256 + 256) n (omega arith))
 
 module _ (k : Kind) (s : List ℕ) (t : Step) (p : Player) (buffer : List ℕ) where
   pub page_not : page_there s t p.at ≡ false → page_into k s t p buffer ≡ emitting p 0 buffer

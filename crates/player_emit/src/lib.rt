@@ -4,6 +4,7 @@
 ghost use Rattle.std.specs.Prelude.{◌≡◌, false, [], ◌∷◌, ◌++◌, ◌+◌, ◌*◌, ◌<◌, ◌≤◌, length, take};
 ghost use Rattle.rules.specs.Sheet.{step_blocks, step_pages};
 ghost use Rattle.rules.specs.Player.{player, counted, sends, command, pair_bytes, lock_command, block_command, first_command, page_frame, lost_in};
+ghost use Rattle.rules.specs.Chip.{address_bytes};
 ghost use Rattle.frame_build.specs.Buffer.{put, put_bytes};
 ghost use Rattle.rules.specs.declared.Kind.TheVariants.{Erase};
 ghost use Rattle.rules.specs.declared.Stage.TheVariants.{Commanded};
@@ -14,7 +15,7 @@ use frame_build::{BLOCK_ERASE, CHECKSUM, PROGRAMMING, VERIFY, put_frame};
 use frame_judge::end_due;
 use octets::numbers::{high_byte, low_byte, middle_byte};
 use player_place::is_lost;
-use rules::{Block, Chip, FRAME_ROOM, Kind, Player, Stage, Step};
+use rules::{Address, Block, Chip, FRAME_ROOM, Kind, Player, Stage, Step};
 use sheet::steps::{step_at, step_pages};
 use sheet::table::count;
 
@@ -23,7 +24,9 @@ const BLANK_CHECK: u8 = 0x32;
 
 const SECURITY_SET: u8 = 0xA0;
 
-// The player after a frame, and how many bytes the frame has; 0 where none is given.
+// The player after a frame, and how many bytes are given: 0 where no frame is.
+// stays: a count and no Option, as `sent` of `Emitting` in specs/Emitting is, which the clauses of `emit` and `emit_step` name; `joined::turn` hands on
+// so many bytes of the buffer, none as any other count.
 #[derive(Clone, Copy)]
 pub struct Emitted {
     pub player: Player,
@@ -31,6 +34,7 @@ pub struct Emitted {
 }
 
 // The player counts frames sent; a count that cannot grow stays.
+#[tactic(auto, unfolding(rules::specs::Player::counted))]
 fn count_frame(n: usize) -> usize
     ensures { result ≡ counted n }
 {
@@ -44,15 +48,32 @@ fn count_frame(n: usize) -> usize
 fn sending(stage: Stage, p: Player, at: usize) -> Player
     ensures { result ≡ player stage p.step at (counted p.frames) p.pieces p.status }
 {
-    let status = p.status;
     Player {
         stage,
-        step: p.step,
         at,
         frames: count_frame(p.frames),
-        pieces: p.pieces,
-        status,
+        ..p
     }
+}
+
+// An address, low byte first.
+fn address_bytes(address: Address) -> [u8; 3]
+    ensures { result ≡ address_bytes address }
+{
+    [
+        low_byte(address.0),
+        middle_byte(address.0),
+        high_byte(address.0),
+    ]
+}
+
+// A command frame around its body, over the first bytes of the buffer.
+#[tactic(auto, using(frame_build::proofs::Buffers::frame_bytes))]
+fn put_command(frame: &mut [u8], body: &[u8]) -> usize
+    requires { (1 ≤ length body.now) × (length body.now ≤ 8) }
+    ensures { put result frame.new ≡ put_bytes (command body.now) frame.old }
+{
+    put_frame(frame, 0x01, 0x03, body)
 }
 
 // A command over the step's address pair: its first 7 bytes, or all 8 for a blank check, which has TAR behind the pair: 00h, flash alone.
@@ -60,29 +81,18 @@ fn pair_command(code: u8, t: Step, n: usize, frame: &mut [u8]) -> usize
     requires { (1 ≤ n) × (n ≤ 8) }
     ensures { put result frame.new ≡ put_bytes (command (take n (code ∷ (pair_bytes t ++ (0x00 ∷ []))))) frame.old }
 {
-    let flash = t.flash;
-    let sad = first_byte(flash, t.first);
-    let ead = last_byte(flash, t.last);
-    let body = [
-        code,
-        low_byte(sad.0),
-        middle_byte(sad.0),
-        high_byte(sad.0),
-        low_byte(ead.0),
-        middle_byte(ead.0),
-        high_byte(ead.0),
-        0x00,
-    ];
-    put_frame(frame, 0x01, 0x03, &body[0..n])
+    let [low, middle, high] = address_bytes(first_byte(t.flash, t.first));
+    let [end_low, end_middle, end_high] = address_bytes(last_byte(t.flash, t.last));
+    let body = [code, low, middle, high, end_low, end_middle, end_high, 0x00];
+    put_command(frame, &body[..n])
 }
 
 // The lock: its SF1 and SF2 as the sheet has them, and the reserved byte.
 fn lock_command(t: Step, frame: &mut [u8]) -> usize
     ensures { put result frame.new ≡ put_bytes (lock_command t) frame.old }
 {
-    let flags = t.flags;
-    let body = [SECURITY_SET, flags.sf1, flags.sf2, 0x00];
-    put_frame(frame, 0x01, 0x03, &body)
+    let body = [SECURITY_SET, t.flags.sf1, t.flags.sf2, 0x00];
+    put_command(frame, &body)
 }
 
 // The erase of the step's block `at`.
@@ -90,16 +100,10 @@ fn block_command(t: Step, at: usize, frame: &mut [u8]) -> usize
     requires { t.first.0 + at < 65536 }
     ensures { put result frame.new ≡ put_bytes (block_command t at) frame.old }
 {
-    let flash = t.flash;
-    let first = t.first;
-    let sad = first_byte(flash, Block(first.0 + at as u16));
-    let body = [
-        BLOCK_ERASE,
-        low_byte(sad.0),
-        middle_byte(sad.0),
-        high_byte(sad.0),
-    ];
-    put_frame(frame, 0x01, 0x03, &body)
+    let block = Block(t.first.0 + at as u16);
+    let [low, middle, high] = address_bytes(first_byte(t.flash, block));
+    let body = [BLOCK_ERASE, low, middle, high];
+    put_command(frame, &body)
 }
 
 // Page `at` of the step's body.
@@ -107,11 +111,9 @@ fn page_frame(sheet: &[u8], t: Step, at: usize, frame: &mut [u8]) -> usize
     requires { (at < step_pages t) × (t.body + at * 256 + 256 ≤ length sheet.now) }
     ensures { put result frame.new ≡ put_bytes (page_frame sheet.now t at) frame.old }
 {
-    let pages = step_pages(t);
-    let last = at + 1 == pages;
+    let last = at + 1 == step_pages(t);
     let from = t.body + at * PAGE_SIZE;
-    let end = from + PAGE_SIZE;
-    put_frame(frame, 0x02, end_due(last), &sheet[from..end])
+    put_frame(frame, 0x02, end_due(last), &sheet[from..from + PAGE_SIZE])
 }
 
 // Page `at` of the step's body lies in the sheet.
@@ -121,10 +123,7 @@ fn page_there(sheet: &[u8], t: Step, at: usize) -> bool
 {
     let _pages = step_pages(t);
     let end = at * PAGE_SIZE + PAGE_SIZE;
-    if sheet.len() < end {
-        return false;
-    }
-    t.body <= sheet.len() - end
+    sheet.len() >= end && t.body <= sheet.len() - end
 }
 
 fn nothing(p: Player) -> Emitted
@@ -133,7 +132,9 @@ fn nothing(p: Player) -> Emitted
     Emitted { player: p, sent: 0 }
 }
 
+// stays: a match over the kinds, which must name them all; no step is chosen by a value that is handed about.
 // The first frame of a step.
+#[tactic(auto, unfolding(rules::specs::Player::first_command))]
 fn first_command(kind: Kind, t: Step, frame: &mut [u8]) -> usize
     ensures { put result frame.new ≡ put_bytes (first_command kind t) frame.old }
 {
@@ -152,11 +153,9 @@ fn emit_first(t: Step, p: Player, frame: &mut [u8]) -> Emitted
     requires { 260 ≤ length frame.old }
     ensures { emitting result.player result.sent frame.new ≡ emitting_by (sends (Commanded t.kind) p 0 (first_command t.kind t)) frame.old }
 {
-    let kind = t.kind;
-    let sent = first_command(kind, t, frame);
     Emitted {
-        player: sending(Stage::Commanded(kind), p, 0),
-        sent,
+        sent: first_command(t.kind, t, frame),
+        player: sending(Stage::Commanded(t.kind), p, 0),
     }
 }
 
@@ -165,14 +164,14 @@ fn emit_block(t: Step, p: Player, frame: &mut [u8]) -> Emitted
     requires { (260 ≤ length frame.old) × (p.at < step_blocks t) }
     ensures { emitting result.player result.sent frame.new ≡ emitting_by (sends (Commanded Erase) p p.at (block_command t p.at)) frame.old }
 {
-    let sent = block_command(t, p.at, frame);
     Emitted {
+        sent: block_command(t, p.at, frame),
         player: sending(Stage::Commanded(Kind::Erase), p, p.at),
-        sent,
     }
 }
 
 // The page in hand; none where the sheet does not have it.
+#[tactic(auto, unfolding(crate::specs::Emitting::page_into))]
 fn emit_page(kind: Kind, sheet: &[u8], t: Step, p: Player, frame: &mut [u8]) -> Emitted
     requires { (260 ≤ length frame.old) × (p.at < step_pages t) }
     ensures { emitting result.player result.sent frame.new ≡ page_into kind sheet.now t p frame.old }
@@ -180,39 +179,33 @@ fn emit_page(kind: Kind, sheet: &[u8], t: Step, p: Player, frame: &mut [u8]) -> 
     if !page_there(sheet, t, p.at) {
         return nothing(p);
     }
-    let sent = page_frame(sheet, t, p.at, frame);
     Emitted {
+        sent: page_frame(sheet, t, p.at, frame),
         player: sending(Stage::Paged(kind), p, p.at),
-        sent,
     }
 }
 
 // By stage, in the player's step `t` of n.
+#[tactic(auto, unfolding(crate::specs::Emitting::emitted_into_by))]
 fn emit_in(n: usize, sheet: &[u8], t: Step, p: Player, frame: &mut [u8]) -> Emitted
     requires { (260 ≤ length frame.old) × (lost_in p.stage n t p ≡ false) }
     ensures { emitting result.player result.sent frame.new ≡ emitted_into_by p.stage sheet.now t p frame.old }
 {
-    let stage = p.stage;
-    match stage {
-        Stage::New => nothing(p),
+    match p.stage {
         Stage::Ready => emit_first(t, p, frame),
         Stage::Block => emit_block(t, p, frame),
-        Stage::Commanded(_) => nothing(p),
         Stage::Page(kind) => emit_page(kind, sheet, t, p, frame),
-        Stage::Paged(_) => nothing(p),
-        Stage::Over => nothing(p),
+        Stage::New | Stage::Commanded(_) | Stage::Paged(_) | Stage::Over => nothing(p),
     }
 }
 
 // The next frame in step `t` of n, for a caller that has read the step. Nothing is given, and the buffer keeps its contents, where it is under 260
 // bytes or the step, block or page is not there.
+#[tactic(auto, unfolding(crate::specs::Emitting::emitted_at))]
 pub fn emit_step(n: usize, sheet: &[u8], t: Step, p: Player, frame: &mut [u8]) -> Emitted
     ensures { emitting result.player result.sent frame.new ≡ emitted_at n t sheet.now p frame.old }
 {
-    if frame.len() < FRAME_ROOM {
-        return nothing(p);
-    }
-    if is_lost(n, t, p) {
+    if frame.len() < FRAME_ROOM || is_lost(n, t, p) {
         return nothing(p);
     }
     emit_in(n, sheet, t, p, frame)

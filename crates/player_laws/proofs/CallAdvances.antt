@@ -19,7 +19,7 @@ use Rattle.rules.specs.declared.Stage.{Stage}
 use Rattle.rules.specs.declared.Stage.TheVariants.{New, Ready, Block, Commanded, Page, Paged, Over}
 use Rattle.rules.specs.declared.Status.{Status}
 use Rattle.rules.specs.declared.Step.{Step}
-use Rattle.rules.specs.declared.Verdict.TheVariants.{Accepted}
+use Rattle.rules.specs.Answers.{Accepted}
 use Rattle.rules.specs.Chip.{pages_per_block, blocks}
 use Rattle.rules.specs.Sheet.{most_steps, count, step_at, step_blocks, step_pages, verdict}
 use Rattle.rules.specs.Player.{player, well, is_well, command_reply, lock_reply, sum_reply, data_reply, beginning, finished, took_once, absorb_command, absorbed, counted, emitted, command_in, lost, player_verdict, played, called, Sent, silent, emit_by}

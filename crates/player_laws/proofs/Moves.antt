@@ -9,15 +9,14 @@ use borrow.Author.Tests.{eq-eqb, ne_eqb}
 use Rattle.rules.specs.declared.Chip.{Chip}
 use Rattle.rules.specs.declared.Kind.{Kind}
 use Rattle.rules.specs.declared.Kind.TheVariants.{Erase}
-use Rattle.rules.specs.declared.Next.TheVariants.{Refused, End}
+use Rattle.rules.specs.Answers.{Refused, End, Accepted}
 use Rattle.rules.specs.declared.Player.{Player}
 use Rattle.rules.specs.declared.Refusal.{Refusal}
 use Rattle.rules.specs.declared.Stage.{Stage}
 use Rattle.rules.specs.declared.Stage.TheVariants.{New, Ready, Block, Commanded, Page, Paged, Over}
 use Rattle.rules.specs.declared.Status.{Status}
 use Rattle.rules.specs.declared.Step.{Step}
-use Rattle.rules.specs.declared.Verdict.TheVariants.{Accepted}
-use Rattle.rules.specs.declared.Verdict.TheVariants as v
+use Rattle.rules.specs.Answers as v
 use Rattle.rules.specs.Chip.{over}
 use Rattle.rules.specs.Sheet.{step_at, step_blocks, step_pages}
 use Rattle.rules.specs.Player.{well, command_reply, data_reply, is_well, absorbs, stopped, goes_on, finished, pages_sure, erased_block, opened_pages, took_once, sent_page, started, absorb_command, absorb_by, absorbed, sends, silent, first_command, block_command, page_frame, emit_by, emitted, player_verdict, calls, played, call_by, called}

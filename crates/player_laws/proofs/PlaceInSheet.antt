@@ -13,8 +13,7 @@ use Rattle.rules.specs.declared.Player.{Player}
 use Rattle.rules.specs.declared.Refusal.TheVariants.{P1, P2}
 use Rattle.rules.specs.declared.Stage.TheVariants.{New, Ready, Block, Commanded, Page, Paged, Over}
 use Rattle.rules.specs.declared.Step.{Step}
-use Rattle.rules.specs.declared.Verdict.{Verdict}
-use Rattle.rules.specs.declared.Verdict.TheVariants.{Accepted, Refused}
+use Rattle.rules.specs.Answers.{Verdict, Accepted, Refused}
 use Rattle.rules.specs.First.{and_then, first}
 use Rattle.rules.specs.Numbers.{kind_number}
 use Rattle.rules.specs.Sheet.{kind_of, count, step_at, step_blocks, step_pages, verdict}

@@ -1,22 +1,22 @@
 -- Whether a reply is one data frame of so many bytes, and how replies are judged: one law for each outcome; and the fixed frames, which are
 -- judged alike whether they are compared or decoded. Assumes nothing.
+use Rattle.frame_build.proofs.Buffers.{rest_of}
 use mathlib.Core.Path.{◌≡◌, refl, sym}
 use mathlib.Core.Bool.{Bool, true, false, cond, ◌&&◌}
 use mathlib.Core.List.{List, [], ◌∷◌}
-use Prim.Native.Nat.{ℕ, ◌+◌, ◌-◌, ◌%◌, ◌<◌, ◌≤◌}
+use Prim.Native.Nat.{ℕ, ◌+◌, ◌%◌, ◌<◌, ◌-◌, ◌≤◌}
 use native.Mathlib.Omega.{arith}
 use lib.Dec.{eqb}
 use lib.ListN.{length, take, drop, length-take}
+use lib.Pointwise.{pointwise}
 use borrow.Author.Tests.{eq-eqb, ne_eqb, eqb-true, eqb-false}
+use Rattle.std.specs.Cmp.Lexicographic.{unequal}
 use Rattle.rules.specs.declared.Status.TheVariants.{Byte, L1}
-use Rattle.rules.specs.declared.Step.{Step}
 use Rattle.rules.specs.Chip.{byte_at, total, same}
 use Rattle.rules.specs.Frame.{adds_up}
-use Rattle.rules.specs.Sheet.{clears}
-use Rattle.rules.specs.Player.{well, framed, command_reply, sum_reply, no_reply, lock_reply, data_reply}
+use Rattle.rules.specs.Player.{well, framed, command_reply, sum_reply, data_reply}
 use Rattle.rules.proofs.Choices.{and_false}
 use Rattle.rules.proofs.Bytes.{same_equal}
-use Rattle.frame_build.proofs.Buffers.{rest_of}
 
 -- ---- the tests, one after the other ----
 
@@ -67,25 +67,6 @@ module _ (r : List ℕ) where
   unfolding data_reply
   first_told h n = rw (h, ne_eqb (byte_at r 2) 0x06 n)
 
--- ---- the reply to a lock ----
-
-pub none_came : (r : List ℕ) → length r ≡ 0 → no_reply r ≡ well
-none_came [] e = refl
-none_came (b ∷ r) e = absurd (omega arith)
-
-pub some_came : (r : List ℕ) → (length r ≡ 0 → ⊥) → no_reply r ≡ L1
-some_came [] n = absurd (n refl)
-some_came (b ∷ r) n = refl
-
-module _ (t : Step) (r : List ℕ) where
-  pub none_due : clears t.flags ≡ true → lock_reply t r ≡ no_reply r
-  unfolding lock_reply
-  none_due h = rw h
-
-  pub one_due : clears t.flags ≡ false → lock_reply t r ≡ command_reply r
-  unfolding lock_reply
-  one_due h = rw h
-
 -- ---- the fixed frames: compared and decoded they are judged alike ----
 
 abbrev ACK : List ℕ
@@ -126,38 +107,61 @@ ack_only a b c d e h = go (eqb a 0x02) (eqb b 0x01) (eqb c 0x06) refl refl refl
     go true false z p q r = refl
     go false y z p q r = refl
 
+both : (b c : Bool) → (b && c) ≡ cond b c false
+both true c = refl
+both false c = refl
+
+-- `==` of two slices of bytes
+same_is : (xs ys : List ℕ) → pointwise eqb xs ys ≡ same xs ys
+unfolding same
+same_is [] [] = refl
+same_is [] (y ∷ ys) = refl
+same_is (x ∷ xs) [] = refl
+same_is (x ∷ xs) (y ∷ ys) = rw (same_is xs ys) (both (eqb x y) (same xs ys))
+
+too_short : (r : List ℕ) → length r < 5 → (framed 1 (take 5 r) && eqb (byte_at r 2) 0x06) ≡ same (take 5 r) ACK
+too_short r h =
+    rw (other_length 1 (take 5 r) (λ e. omega (arith, length-take 5 r)), ← same_is (take 5 r) ACK, unequal eqb (take 5 r) ACK (λ e. omega (arith, length-take 5 r)))
+
 -- so a sum's first frame is told by comparing five bytes
-first_frame : (r : List ℕ) → 5 ≤ length r → byte_at r 3 < 256 → (framed 1 (take 5 r) && eqb (byte_at r 2) 0x06) ≡ same (take 5 r) ACK
-first_frame (a ∷ b ∷ c ∷ d ∷ e ∷ r) l h = ack_only a b c d e h
-first_frame (a ∷ b ∷ c ∷ d ∷ []) l h = absurd (omega arith)
-first_frame (a ∷ b ∷ c ∷ []) l h = absurd (omega arith)
-first_frame (a ∷ b ∷ []) l h = absurd (omega arith)
-first_frame (a ∷ []) l h = absurd (omega arith)
-first_frame [] l h = absurd (omega arith)
+first_frame : (r : List ℕ) → byte_at r 3 < 256 → (framed 1 (take 5 r) && eqb (byte_at r 2) 0x06) ≡ same (take 5 r) ACK
+first_frame (a ∷ b ∷ c ∷ d ∷ e ∷ r) h = ack_only a b c d e h
+first_frame (a ∷ b ∷ c ∷ d ∷ []) h = too_short (a ∷ b ∷ c ∷ d ∷ []) (omega arith)
+first_frame (a ∷ b ∷ c ∷ []) h = too_short (a ∷ b ∷ c ∷ []) (omega arith)
+first_frame (a ∷ b ∷ []) h = too_short (a ∷ b ∷ []) (omega arith)
+first_frame (a ∷ []) h = too_short (a ∷ []) (omega arith)
+first_frame [] h = too_short [] (omega arith)
 
-module _ (r : List ℕ) where
-  pub sum_short : length r < 5 → sum_reply r ≡ command_reply r
+module _ (r : List ℕ) (h : byte_at r 3 < 256) where
+  pub sum_refused : same (take 5 r) ACK ≡ false → sum_reply r ≡ command_reply r
   unfolding sum_reply
-  sum_short h = rw (other_length 1 (take 5 r) (λ e. omega (arith, length-take 5 r)))
+  sum_refused e = rw (first_frame r h, e)
 
-  module _ (l : 5 ≤ length r) (h : byte_at r 3 < 256) where
-    pub sum_refused : same (take 5 r) ACK ≡ false → sum_reply r ≡ command_reply r
+  module _ (e : same (take 5 r) ACK ≡ true) where
+    pub sum_told_lem : framed 2 (drop 5 r) ≡ true → sum_reply r ≡ well
     unfolding sum_reply
-    sum_refused e = rw (first_frame r l h, e)
+    sum_told_lem f = rw (first_frame r h, e, f)
 
-    module _ (e : same (take 5 r) ACK ≡ true) where
-      pub sum_told_lem : framed 2 (drop 5 r) ≡ true → sum_reply r ≡ well
-      unfolding sum_reply
-      sum_told_lem f = rw (first_frame r l h, e, f)
+    pub sum_bad : framed 2 (drop 5 r) ≡ false → sum_reply r ≡ L1
+    unfolding sum_reply
+    sum_bad f = rw (first_frame r h, e, f)
 
-      pub sum_bad : framed 2 (drop 5 r) ≡ false → sum_reply r ≡ L1
-      unfolding sum_reply
-      sum_bad f = rw (first_frame r l h, e, f)
+-- the same, as the code compares
+pub equal_ACK : (r : List ℕ) → pointwise eqb r ACK ≡ true → command_reply r ≡ well
+equal_ACK r e = command_alike r (rw (← same_is r ACK) e)
 
--- the same, of a rest that is given by its length
+pub equal_WELL : (r : List ℕ) → pointwise eqb r WELL ≡ true → data_reply r ≡ well
+equal_WELL r e = data_alike r (rw (← same_is r WELL) e)
+
+pub sum_by_first : (r : List ℕ) → byte_at r 3 < 256
+    → sum_reply r ≡ cond (pointwise eqb (take 5 r) ACK) (cond (framed 2 (drop 5 r)) well L1) (command_reply r)
+unfolding sum_reply
+sum_by_first r h = rw (first_frame r h, same_is (take 5 r) ACK)
+
+-- a rest that is given by its length
 module _ (r : List ℕ) (l : 5 ≤ length r) (h : byte_at r 3 < 256) (e : same (take 5 r) ACK ≡ true) where
   pub rest_told : framed 2 (take (length r - 5) (drop 5 r)) ≡ true → sum_reply r ≡ well
-  rest_told f = sum_told_lem r l h e (rw (sym (rest_of 5 r)) f)
+  rest_told f = sum_told_lem r h e (rw (sym (rest_of 5 r)) f)
 
   pub rest_bad : framed 2 (take (length r - 5) (drop 5 r)) ≡ false → sum_reply r ≡ L1
-  rest_bad f = sum_bad r l h e (rw (sym (rest_of 5 r)) f)
+  rest_bad f = sum_bad r h e (rw (sym (rest_of 5 r)) f)

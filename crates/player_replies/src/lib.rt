@@ -1,4 +1,4 @@
-// Replies: exactly what is due, or L1. A reply is compared with the fixed frame of `wire` first; only what differs from it is decoded.
+// Replies: exactly what is due, or L1. A reply is compared with the fixed frame of `frame_build` first; only what differs from it is decoded.
 #![tactic(auto)]
 
 ghost use Rattle.std.specs.Prelude.{◌≡◌, ◌≤◌};
@@ -7,31 +7,24 @@ ghost use Rattle.rules.specs.Player.{framed, command_reply, sum_reply, sum_in, n
 
 use frame_build::{ACK, WELL, adds_up};
 use octets::numbers::{byte_at, word_at};
-use octets::same_bytes;
 use rules::{Flags, Status, Step};
 
 // One data frame of n bytes and nothing more, correct in start, LEN, SUM and end.
+#[tactic(auto, using(frame_build::proofs::Sum::line_added), unfolding(rules::specs::Player::framed))]
 fn is_framed(n: usize, r: &[u8]) -> bool
     requires { n ≤ 2 }
     ensures { result ≡ framed n r.now }
 {
-    if r.len() != n + 4 {
-        return false;
-    }
-    if r[0] != 0x02 {
-        return false;
-    }
-    if r[1] as usize != n {
-        return false;
-    }
-    // LEN, body and SUM
-    if !adds_up(&r[1..n + 3]) {
-        return false;
-    }
-    r[n + 3] == 0x03
+    r.len() == n + 4
+        && r[0] == 0x02
+        && r[1] as usize == n
+        // LEN, body and SUM
+        && adds_up(&r[1..n + 3])
+        && r[n + 3] == 0x03
 }
 
 // The status that a frame of one byte tells.
+#[tactic(auto, unfolding(rules::specs::Player::command_reply))]
 fn decode_one(r: &[u8]) -> Status
     ensures { result ≡ command_reply r.now }
 {
@@ -42,41 +35,39 @@ fn decode_one(r: &[u8]) -> Status
 }
 
 // The status that a frame of two bytes tells: the first unless that is 06h, then the second.
+#[tactic(auto, unfolding(rules::specs::Player::data_reply))]
 fn decode_pair(r: &[u8]) -> Status
     ensures { result ≡ data_reply r.now }
 {
     if !is_framed(2, r) {
         return Status::L1;
     }
-    let line = byte_at(r, 2);
-    if line == 0x06 {
-        return Status::Byte(byte_at(r, 3));
+    match byte_at(r, 2) {
+        0x06 => Status::Byte(byte_at(r, 3)),
+        line => Status::Byte(line),
     }
-    Status::Byte(line)
 }
 
 // The reply to a command frame.
+#[tactic(auto, using(crate::proofs::Framing::equal_ACK))]
 pub fn command_reply(r: &[u8]) -> Status
     ensures { result ≡ command_reply r.now }
 {
-    if same_bytes(r, &ACK) {
+    if r == ACK.as_slice() {
         return Status::Byte(0x06);
     }
     decode_one(r)
 }
 
 // The reply to a sum: the ACK, and a frame of two bytes behind it; or one frame that tells why not.
-#[tactic(auto, using(crate::proofs::Framing::sum_short, crate::proofs::Framing::sum_refused, crate::proofs::Framing::rest_told, crate::proofs::Framing::rest_bad))]
+#[tactic(auto, using(crate::proofs::Framing::sum_by_first))]
 pub fn sum_reply(r: &[u8]) -> Status
     ensures { result ≡ sum_reply r.now }
 {
-    if r.len() < 5 {
+    let Some(rest) = r.strip_prefix(&ACK) else {
         return decode_one(r);
-    }
-    if !same_bytes(&r[0..5], &ACK) {
-        return decode_one(r);
-    }
-    if is_framed(2, &r[5..]) {
+    };
+    if is_framed(2, rest) {
         return Status::Byte(0x06);
     }
     Status::L1
@@ -93,34 +84,31 @@ pub fn sum_in(r: &[u8]) -> u16
 fn no_reply(r: &[u8]) -> Status
     ensures { result ≡ no_reply r.now }
 {
-    if r.len() == 0 {
+    if r.is_empty() {
         return Status::Byte(0x06);
     }
     Status::L1
 }
 
-// Bit 2 of SF2 is IFPR.
-fn clears_ifpr(f: Flags) -> bool
-    ensures { result ≡ clears f }
-{
-    f.sf2 / 4 % 2 == 0
-}
-
 // The reply to a lock: none to one that clears IFPR, for the chip then answers nothing more; one byte to any other.
+#[tactic(auto, unfolding(rules::specs::Player::lock_reply))]
 pub fn lock_reply(t: Step, r: &[u8]) -> Status
     ensures { result ≡ lock_reply t r.now }
 {
-    if clears_ifpr(t.flags) {
+    if t.flags.clears_ifpr() {
         return no_reply(r);
     }
     command_reply(r)
 }
 
 // The reply to a data frame.
+// stays: beside `command_reply`, which compares with another fixed frame and decodes another way; one function for both takes both as parameters, and
+// each of the two is a test and a call.
+#[tactic(auto, using(crate::proofs::Framing::equal_WELL))]
 pub fn data_reply(r: &[u8]) -> Status
     ensures { result ≡ data_reply r.now }
 {
-    if same_bytes(r, &WELL) {
+    if r == WELL.as_slice() {
         return Status::Byte(0x06);
     }
     decode_pair(r)
@@ -129,8 +117,5 @@ pub fn data_reply(r: &[u8]) -> Status
 pub fn is_well(status: Status) -> bool
     ensures { result ≡ is_well status }
 {
-    match status {
-        Status::Byte(b) => b == 0x06,
-        Status::L1 => false,
-    }
+    matches!(status, Status::Byte(0x06))
 }

@@ -9,8 +9,7 @@ use borrow.Author.Tests.{eqb-true, eqb-false}
 use Rattle.rules.specs.declared.Chip.{Chip}
 use Rattle.rules.specs.declared.Refusal.{Refusal}
 use Rattle.rules.specs.declared.Refusal.TheVariants.{D0}
-use Rattle.rules.specs.declared.Verdict.{Verdict}
-use Rattle.rules.specs.declared.Verdict.TheVariants.{Accepted, Refused}
+use Rattle.rules.specs.Answers.{Verdict, Accepted, Refused}
 use Rattle.rules.specs.First.{and_then, first}
 use Rattle.rules.proofs.Choices.{both as both_true}
 use Rattle.rules.specs.Chip.{known, same_counts}

@@ -8,7 +8,7 @@ use lib.ListN.{replicate}
 use Rattle.rules.specs.declared.Chip.{Chip}
 use Rattle.rules.specs.declared.Flash.TheVariants.{Code, Data}
 use Rattle.rules.specs.declared.Kind.TheVariants.{Lock}
-use Rattle.rules.specs.declared.Note.TheVariants.{Empty}
+use Rattle.rules.specs.Notes.{Empty}
 use Rattle.rules.specs.declared.Options.{Options}
 use Rattle.rules.specs.declared.Order.TheVariants.{SecuritySet}
 use Rattle.rules.specs.declared.Pages.{Pages}

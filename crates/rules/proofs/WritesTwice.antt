@@ -10,8 +10,7 @@ use borrow.Author.Tests.{eqb-true, eqb-false, eq-eqb, leb-true, ltb-true, le-leb
 use Rattle.rules.specs.declared.Flash.{Flash}
 use Rattle.rules.specs.declared.Flash.TheVariants.{Code, Data}
 use Rattle.rules.specs.declared.Block.{Block}
-use Rattle.rules.specs.declared.Range.{Range}
-use Rattle.rules.specs.declared.Range.TheVariants.{Blocks, Invalid}
+use Rattle.rules.specs.Answers.{Range, Blocks, Invalid}
 use Rattle.rules.specs.Chip.{same_flash, pages_per_block, first_page, pages_from, block_of_page, blocks_from}
 use Rattle.rules.specs.Sheet.{count, kind_at, range_at, against, covers, writes, erases, written, any_from, any_written, writes_again, J13}
 use Rattle.rules.proofs.Choices.{both}

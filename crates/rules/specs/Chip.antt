@@ -5,10 +5,7 @@ use Rattle.rules.specs.declared.Flash.{Flash}
 use Rattle.rules.specs.declared.Flash.TheVariants.{Code, Data}
 use Rattle.rules.specs.declared.Address.{Address}
 use Rattle.rules.specs.declared.Block.{Block}
-use Rattle.rules.specs.declared.Found.{Found}
-use Rattle.rules.specs.declared.Found.TheVariants.{In, Nowhere}
-use Rattle.rules.specs.declared.Range.{Range}
-use Rattle.rules.specs.declared.Range.TheVariants.{Blocks, Invalid}
+use Rattle.rules.specs.Verdicts.{Found, In, Nowhere, Range, Blocks, Invalid}
 
 -- ---- bytes, low byte first (Commands: "Addresses are three bytes, words two, low byte first") ----
 

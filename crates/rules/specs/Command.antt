@@ -4,29 +4,18 @@ use Rattle.rules.specs.declared.Chip.{Chip}
 use Rattle.rules.specs.declared.Flash.{Flash}
 use Rattle.rules.specs.declared.Block.{Block}
 use Rattle.rules.specs.declared.Address.{Address}
-use Rattle.rules.specs.declared.Found.{Found}
-use Rattle.rules.specs.declared.Found.TheVariants.{In, Nowhere}
-use Rattle.rules.specs.declared.Range.{Range}
-use Rattle.rules.specs.declared.Range.TheVariants.{Blocks, Invalid}
+use Rattle.rules.specs.Answers.{Found, In, Nowhere, Range, Blocks, Invalid, CodeRow, Decoded, Is, Bad, Judged, Faulty, Ordered, Row, Unknown}
 use Rattle.rules.specs.declared.Options.{Options}
 use Rattle.rules.specs.declared.Phase.{Phase}
 use Rattle.rules.specs.declared.Phase.TheVariants.{Mode, Speed, Ident, Command, Silent}
 use Rattle.rules.specs.declared.Pages.{Pages}
 use Rattle.rules.specs.declared.Task.{Task}
 use Rattle.rules.specs.declared.Task.TheVariants.{Idle, Programming, Verifying}
-use Rattle.rules.specs.declared.CodeRow.{CodeRow}
-use Rattle.rules.specs.declared.CodeRow.TheVariants.{Row, Unknown}
 use Rattle.rules.specs.declared.Order.{Order}
 use Rattle.rules.specs.declared.Order.TheVariants.{Reset, Verify, Erase, BlankCheck, Program, BaudRate, Identity, SecuritySet, SecurityGet, Release, WindowSet, WindowGet, Checksum}
-use Rattle.rules.specs.declared.Decoded.{Decoded}
-use Rattle.rules.specs.declared.Decoded.TheVariants.{Is, Bad}
-use Rattle.rules.specs.declared.Judged.{Judged}
-use Rattle.rules.specs.declared.Judged.TheVariants.{Faulty, Ordered}
-use Rattle.rules.specs.declared.Fault.{Fault}
-use Rattle.rules.specs.declared.Note.{Note}
-use Rattle.rules.specs.declared.Note.TheVariants.{Empty, Used, Bits}
-use Rattle.rules.specs.declared.Fault.TheVariants.{EndByte, Sum, Code, Length, Parameter, NotBlank, Protected}
-use Rattle.rules.specs.declared.Fault.TheVariants as fault
+use Rattle.rules.specs.Faults.{Fault, EndByte, Sum, Code, Length, Parameter, NotBlank, Protected}
+use Rattle.rules.specs.Notes.{Note, Empty, Used, Bits}
+use Rattle.rules.specs.Faults as fault
 use Rattle.rules.specs.First.{Rule, rule, first_fault}
 use Rattle.rules.specs.Chip.{Memory, byte_at, word_at, address_at, word_bytes, same, blank, ident_of, ident_size, blank_memory, blanks_before, page_size, block, block_size, erase_address, range, first_page, pages_from, erase_block, bytes_from, checksum}
 use Rattle.rules.specs.Options.{BTPR, SEPR, FSPR, IDEN, IFPR, shownSF1, shownSF2, shownSWS, shownSWE, blank_options, security_set, release, window_set, erase_protected}

@@ -1,10 +1,8 @@
 -- "First that applies" (01, Status bytes and their order; The job sheet): rules in their order, each with what it names. Assumes nothing.
 use Rattle.std.specs.Prelude.{Bool, cond, List, [], ◌∷◌}
-use Rattle.rules.specs.declared.Fault.{Fault}
-use Rattle.rules.specs.declared.Fault.TheVariants.{Well}
+use Rattle.rules.specs.Faults.{Fault, Well}
 use Rattle.rules.specs.declared.Refusal.{Refusal}
-use Rattle.rules.specs.declared.Verdict.{Verdict}
-use Rattle.rules.specs.declared.Verdict.TheVariants.{Accepted, Refused}
+use Rattle.rules.specs.Verdicts.{Verdict, Accepted, Refused}
 
 pub record Rule (A : Type 0) : Type 0 where
   pub name : A

@@ -1,10 +1,8 @@
 -- 01, Frames, and Status bytes and their order (001, section 5): building a frame, reading one, judging it. Assumes nothing.
 use Rattle.std.specs.Prelude.{ℕ, ◌+◌, ◌-◌, ◌%◌, Bool, true, false, cond, not, ◌&&◌, List, [], ◌∷◌, ◌++◌, leb, eqb, length, take, drop}
-use Rattle.rules.specs.declared.Fault.{Fault}
-use Rattle.rules.specs.declared.Note.{Note}
-use Rattle.rules.specs.declared.Note.TheVariants.{Empty}
-use Rattle.rules.specs.declared.Note.TheVariants as note
-use Rattle.rules.specs.declared.Fault.TheVariants.{Well, EndByte, Sum, Code, Length, Parameter, Ident, NotBlank, Protected, PageNotBlank, Difference}
+use Rattle.rules.specs.Faults.{Fault, Well, EndByte, Sum, Code, Length, Parameter, Ident, NotBlank, Protected, PageNotBlank, Difference}
+use Rattle.rules.specs.Notes.{Note, Empty}
+use Rattle.rules.specs.Notes as note
 use Rattle.rules.specs.First.{rule, first_fault}
 use Rattle.rules.specs.Chip.{byte_at, total}
 

@@ -3,14 +3,12 @@ use Rattle.std.specs.Prelude.{ℕ, zero, suc, ◌+◌, ◌-◌, ◌*◌, ◌/◌
 use Rattle.rules.specs.declared.Flash.{Flash}
 use Rattle.rules.specs.declared.Flash.TheVariants.{Code, Data}
 use Rattle.rules.specs.declared.Block.{Block}
-use Rattle.rules.specs.declared.hex.HexLine.{HexLine}
-use Rattle.rules.specs.declared.hex.HexLine.TheVariants as line
+use Rattle.rules.specs.HexLines.{HexLine}
+use Rattle.rules.specs.HexLines as line
 use Rattle.rules.specs.declared.hex.HexRefusal.{HexRefusal}
 use Rattle.rules.specs.declared.hex.HexRefusal.TheVariants.{BadForm, WrongSum, OtherType, Outside, Twice, AfterEnd, NoEnd, ManySteps, ManyBytes, ShortBuffer}
-use Rattle.rules.specs.declared.hex.HexRead.{HexRead}
-use Rattle.rules.specs.declared.hex.HexRead.TheVariants.{On, Ended, Refused}
-use Rattle.rules.specs.declared.hex.HexMade.{HexMade}
-use Rattle.rules.specs.declared.hex.HexMade.TheVariants as made
+use Rattle.rules.specs.Answers.{HexRead, On, Ended, Refused, HexMade}
+use Rattle.rules.specs.Answers as made
 use Rattle.rules.specs.declared.numbers.Number.{Number}
 use Rattle.rules.specs.First.{rule, first}
 use Rattle.rules.specs.Chip.{Memory, small, byte_at, word_bytes, address_bytes, total, over, part_of, blank_byte, block_size, start, blocks, flash_size, flash_of, with_flash, block, first_byte, last_byte}

@@ -1,3 +1,9 @@
+pub mod Verdicts
+pub mod Notes
+pub mod Faults
+pub mod Answers
+pub mod HexLines
+pub mod CaptureVerdicts
 pub mod First
 pub mod Chip
 pub mod Options

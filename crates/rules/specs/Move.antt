@@ -1,10 +1,8 @@
 -- 02, M-106: a sheet moved from form 1 up to form 2, and down again. Assumes nothing.
 use Rattle.std.specs.Prelude.{ℕ, zero, suc, ◌+◌, ◌-◌, ◌/◌, ◌%◌, Bool, false, not, ◌&&◌, ◌||◌, List, [], ◌∷◌, ◌++◌, ltb, eqb, length, take, drop}
-use Rattle.rules.specs.declared.Moved.{Moved}
-use Rattle.rules.specs.declared.Moved.TheVariants as moved
+use Rattle.rules.specs.Answers.{Moved, Verdict, Accepted, Refused}
+use Rattle.rules.specs.Answers as moved
 use Rattle.rules.specs.declared.Refusal.TheVariants as r
-use Rattle.rules.specs.declared.Verdict.{Verdict}
-use Rattle.rules.specs.declared.Verdict.TheVariants.{Accepted, Refused}
 use Rattle.rules.specs.declared.numbers.Number.{Number}
 use Rattle.rules.specs.First.{refuse, first_broken, and_then}
 use Rattle.rules.specs.Chip.{over}

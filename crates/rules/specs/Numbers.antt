@@ -3,18 +3,12 @@ use Rattle.std.specs.Prelude.{ℕ, List, [], ◌∷◌}
 use Rattle.rules.specs.declared.numbers.Number.{Number}
 use Rattle.rules.specs.declared.Refusal.{Refusal}
 use Rattle.rules.specs.declared.Refusal.TheVariants.{D0, D1, D2, D3, E1, J1, J2, J3, J4, J5, J6, J7, J8, J9, J10, J11, J12, J13, J14, J15, J16, P1, P2}
-use Rattle.rules.specs.declared.Call.{Call}
-use Rattle.rules.specs.declared.Call.TheVariants as call
-use Rattle.rules.specs.declared.Verdict.{Verdict}
-use Rattle.rules.specs.declared.Verdict.TheVariants as verdict
-use Rattle.rules.specs.declared.Next.{Next}
-use Rattle.rules.specs.declared.Next.TheVariants as next
+use Rattle.rules.specs.Answers.{Call, Verdict, Next, Refused, Accepted, Answer, Frame, End}
 use Rattle.rules.specs.declared.Status.{Status}
 use Rattle.rules.specs.declared.Status.TheVariants.{Byte, L1}
 use Rattle.rules.specs.declared.Flash.{Flash}
 use Rattle.rules.specs.declared.Flash.TheVariants.{Code, Data}
-use Rattle.rules.specs.declared.Note.{Note}
-use Rattle.rules.specs.declared.Note.TheVariants.{Empty, Used, Bits, EndByte, Length}
+use Rattle.rules.specs.Notes.{Note, Empty, Used, Bits, EndByte, Length}
 use Rattle.rules.specs.declared.Kind.{Kind}
 use Rattle.rules.specs.declared.Kind.TheVariants.{Erase, Write, Verify, Sum, Blank, Lock}
 
@@ -49,19 +43,19 @@ refusal_number P2 = number 0x50 2
 
 -- a byte call: the refusal, or the length of the answer
 abbrev pub call_number : Call → Number
-call_number (call.Refused n) = refusal_number n
-call_number (call.Answer n) = number 0 n
+call_number (Refused n) = refusal_number n
+call_number (Answer n) = number 0 n
 
 -- a sheet's verdict: the refusal, or nothing
 abbrev pub verdict_number : Verdict → Number
-verdict_number verdict.Accepted = number 0 0
-verdict_number (verdict.Refused n) = refusal_number n
+verdict_number Accepted = number 0 0
+verdict_number (Refused n) = refusal_number n
 
 -- a player call: the refusal, the length of the frame, or 0 at the end
 abbrev pub next_number : Next → Number
-next_number (next.Refused n) = refusal_number n
-next_number (next.Frame n) = number 0 n
-next_number next.End = number 0 0
+next_number (Refused n) = refusal_number n
+next_number (Frame n) = number 0 n
+next_number End = number 0 0
 
 -- a report's status: a byte of the status table, or L1
 abbrev pub status_number : Status → Number

@@ -5,11 +5,8 @@ use Rattle.rules.specs.declared.Chip.{Chip}
 use Rattle.rules.specs.declared.Flash.{Flash}
 use Rattle.rules.specs.declared.Flash.TheVariants.{Code}
 use Rattle.rules.specs.declared.Address.{Address}
-use Rattle.rules.specs.declared.Range.{Range}
-use Rattle.rules.specs.declared.Range.TheVariants.{Blocks, Invalid}
+use Rattle.rules.specs.Verdicts.{Range, Blocks, Invalid, Verdict, Accepted}
 use Rattle.rules.specs.declared.Refusal.TheVariants as r
-use Rattle.rules.specs.declared.Verdict.{Verdict}
-use Rattle.rules.specs.declared.Verdict.TheVariants.{Accepted}
 use Rattle.rules.specs.declared.Kind.{Kind}
 use Rattle.rules.specs.declared.Kind.TheVariants.{Erase, Write, Verify, Sum, Blank, Lock}
 use Rattle.rules.specs.declared.Flags.{Flags}

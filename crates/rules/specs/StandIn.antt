@@ -8,18 +8,12 @@ use Rattle.rules.specs.declared.Phase.TheVariants.{Mode, Speed, Ident, Command, 
 use Rattle.rules.specs.declared.Pages.{Pages}
 use Rattle.rules.specs.declared.Task.{Task}
 use Rattle.rules.specs.declared.Task.TheVariants.{Idle, Programming, Verifying}
-use Rattle.rules.specs.declared.Judged.{Judged}
-use Rattle.rules.specs.declared.Judged.TheVariants.{Faulty, Ordered}
-use Rattle.rules.specs.declared.Fault.{Fault}
-use Rattle.rules.specs.declared.Fault.TheVariants.{Well, EndByte, Sum, Length, Parameter, NotBlank, Protected, PageNotBlank, Difference}
-use Rattle.rules.specs.declared.Fault.TheVariants as fault
-use Rattle.rules.specs.declared.Note.{Note}
-use Rattle.rules.specs.declared.Note.TheVariants.{Empty}
-use Rattle.rules.specs.declared.Call.{Call}
-use Rattle.rules.specs.declared.Call.TheVariants.{Refused, Answer}
+use Rattle.rules.specs.Answers.{Judged, Faulty, Ordered, Call, Refused, Answer, Verdict}
+use Rattle.rules.specs.Faults.{Fault, Well, EndByte, Sum, Length, Parameter, NotBlank, Protected, PageNotBlank, Difference}
+use Rattle.rules.specs.Faults as fault
+use Rattle.rules.specs.Notes.{Note, Empty}
 use Rattle.rules.specs.declared.Refusal.TheVariants.{D0, D1, D2, D3}
-use Rattle.rules.specs.declared.Verdict.{Verdict}
-use Rattle.rules.specs.declared.Verdict.TheVariants as verdict
+use Rattle.rules.specs.Answers as verdict
 use Rattle.rules.specs.First.{rule, first_fault, refuse, first_broken, and_then}
 use Rattle.rules.specs.Chip.{Memory, known, flash_size, same, blank, over, pages, page_of, put_page, block_of_page}
 use Rattle.rules.specs.Options.{IFPR, write_protected}

@@ -4,8 +4,7 @@ use Rattle.rules.specs.declared.Chip.{Chip}
 use Rattle.rules.specs.declared.Options.{Options}
 use Rattle.rules.specs.declared.Phase.{Phase}
 use Rattle.rules.specs.declared.Task.{Task}
-use Rattle.rules.specs.declared.Note.{Note}
-use Rattle.rules.specs.declared.Note.TheVariants.{Empty}
+use Rattle.rules.specs.Notes.{Note, Empty}
 use Rattle.rules.specs.Chip.{Memory}
 
 -- the stand-in: phase, command begun, options, bytes of the frame in hand, both flashes

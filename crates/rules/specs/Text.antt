@@ -4,8 +4,7 @@ use Prim.Native.Char.{code}
 use Prim.Native.String.{String, [] as []ˢ, ◌∷◌ as ◌∷ˢ◌}
 use Rattle.rules.specs.declared.Chip.{Chip}
 use Rattle.rules.specs.declared.Refusal.{Refusal}
-use Rattle.rules.specs.declared.Verdict.{Verdict}
-use Rattle.rules.specs.declared.Verdict.TheVariants.{Accepted, Refused}
+use Rattle.rules.specs.Answers.{Verdict, Accepted, Refused}
 use Rattle.rules.specs.declared.Kind.{Kind}
 use Rattle.rules.specs.declared.Kind.TheVariants.{Erase, Write, Verify, Sum, Blank, Lock}
 use Rattle.rules.specs.declared.Status.{Status}
@@ -13,8 +12,7 @@ use Rattle.rules.specs.declared.Status.TheVariants.{Byte, L1}
 use Rattle.rules.specs.declared.Report.{Report}
 use Rattle.rules.specs.declared.Flash.{Flash}
 use Rattle.rules.specs.declared.Flash.TheVariants.{Code, Data}
-use Rattle.rules.specs.declared.Note.{Note}
-use Rattle.rules.specs.declared.Note.TheVariants.{Empty, Used, Bits, EndByte, Length}
+use Rattle.rules.specs.Notes.{Note, Empty, Used, Bits, EndByte, Length}
 use Rattle.rules.specs.Sheet.{count, step_at}
 use Rattle.rules.specs.Numbers.{refusal_number}
 

@@ -3,11 +3,10 @@ use Rattle.std.specs.Prelude.{ℕ, Bool, not, ◌&&◌, List, [], ◌∷◌, eqb
 use Rattle.rules.specs.declared.Chip.{Chip}
 use Rattle.rules.specs.declared.Phase.{Phase}
 use Rattle.rules.specs.declared.Task.{Task}
-use Rattle.rules.specs.declared.Note.TheVariants.{Empty}
-use Rattle.rules.specs.declared.Call.TheVariants.{Refused}
+use Rattle.rules.specs.Notes.{Empty}
+use Rattle.rules.specs.Answers.{Refused, Verdict}
 use Rattle.rules.specs.declared.Refusal.TheVariants.{E1}
-use Rattle.rules.specs.declared.Verdict.{Verdict}
-use Rattle.rules.specs.declared.Verdict.TheVariants as verdict
+use Rattle.rules.specs.Answers as verdict
 use Rattle.rules.specs.First.{refuse, first_broken, and_then}
 use Rattle.rules.specs.Chip.{byte_at}
 use Rattle.rules.specs.Frame.{whole}

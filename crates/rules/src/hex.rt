@@ -1,11 +1,16 @@
 // 02, M-103, Intel HEX in: what a line of a HEX text is, how far the lines are read, and what refuses a text.
 
-// A line by itself: a record of type 00, 01 or 04; or what is wrong with it, whatever stands before it.
+// A record by its type: 00, 01 or 04.
 #[derive(Clone, Copy)]
 pub enum HexLine {
     Bytes,
     End,
     Upper,
+}
+
+// What is wrong with a line by itself, whatever stands before it.
+#[derive(Clone, Copy)]
+pub enum HexFault {
     BadForm,
     WrongSum,
     OtherType,
@@ -26,17 +31,9 @@ pub enum HexRefusal {
     ShortBuffer,
 }
 
-// After a line: the next one is due, the text has its end record, or it is refused.
+// After a line that is not refused: the next one is due, or the text has its end record.
 #[derive(Clone, Copy)]
 pub enum HexRead {
     On,
     Ended,
-    Refused(HexRefusal),
-}
-
-// The answer of the call: a sheet of so many bytes, or the refusal.
-#[derive(Clone, Copy)]
-pub enum HexMade {
-    Sheet(usize),
-    Refused(HexRefusal),
 }

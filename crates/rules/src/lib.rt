@@ -2,6 +2,9 @@
 
 #![tactic(auto)]
 
+ghost use Rattle.std.specs.Prelude.{◌≡◌};
+ghost use Rattle.rules.specs.Sheet.{clears};
+
 pub mod capture;
 pub mod hex;
 pub mod numbers;
@@ -12,39 +15,25 @@ pub const FRAME_ROOM: usize = 260;
 pub const REPLY_ROOM: usize = 16;
 
 // A chip: how many blocks its code flash and its data flash have. Two are known.
-#[derive(Clone, Copy)]
+#[derive(Clone, Copy, PartialEq, Eq)]
 pub struct Chip {
     pub code: u16,
     pub data: u16,
 }
 
-#[derive(Clone, Copy)]
+#[derive(Clone, Copy, PartialEq, Eq)]
 pub enum Flash {
     Code,
     Data,
 }
 
 // The address of a byte, as every command but those of the window names it.
-#[derive(Clone, Copy)]
+#[derive(Clone, Copy, PartialEq, Eq)]
 pub struct Address(pub u32);
 
 // The number of a block in its flash, as the window names it. Only the finder turns one into the other.
-#[derive(Clone, Copy)]
+#[derive(Clone, Copy, PartialEq, Eq)]
 pub struct Block(pub u16);
-
-// Where an address lies.
-#[derive(Clone, Copy)]
-pub enum Found {
-    In(Flash, Block),
-    Nowhere,
-}
-
-// What a pair of addresses names: the first and the last block, or no valid pair.
-#[derive(Clone, Copy)]
-pub enum Range {
-    Blocks(Flash, Block, Block),
-    Invalid,
-}
 
 // The options as stored: two flag bytes and two window words.
 #[derive(Clone, Copy)]
@@ -55,7 +44,7 @@ pub struct Options {
     pub swe: u16,
 }
 
-#[derive(Clone, Copy)]
+#[derive(Clone, Copy, PartialEq, Eq)]
 pub enum Phase {
     Mode,
     Speed,
@@ -74,18 +63,12 @@ pub struct Pages {
 }
 
 // The command begun that waits for data.
+// stays: no Option, since Idle is a state of the chip by 01's name, as the other two are.
 #[derive(Clone, Copy)]
 pub enum Task {
     Idle,
     Programming(Pages),
     Verifying(Pages),
-}
-
-// A row of the command table: the length that a code must have, and the number of the phase that allows it.
-#[derive(Clone, Copy)]
-pub enum CodeRow {
-    Row { len: u8, phase: u8 },
-    Unknown,
 }
 
 // A command whose information is read: the blocks, flags and words that it names, and TAR. The ten bytes of an ID stay in its frame.
@@ -106,45 +89,29 @@ pub enum Order {
     Checksum(Flash, Block, Block),
 }
 
-// The information of a command frame: an order, or not valid (05h).
-#[derive(Clone, Copy)]
-pub enum Decoded {
-    Is(Order),
-    Bad,
-}
-
-// The stand-in's own note, off the wire, on one byte: nothing; the first byte in use, by its flash, its block there and its page in the block; an
-// option bit that is not 1; a wrong end byte; or a wrong length, by the LEN expected and the LEN found.
+// The stand-in's own note, off the wire, on one byte: the first byte in use, by its flash, its block there and its page in the block; an option bit that
+// is not 1; a wrong end byte; or a wrong length, by the LEN expected and the LEN found.
 #[derive(Clone, Copy)]
 pub enum Note {
-    Empty,
     Used(Flash, Block, usize),
     Bits,
     EndByte,
     Length(u8, u8),
 }
 
-// The verdict on a frame: the first row of 01's status table that applies, with what the note tells of it.
+// What is wrong with a frame: the first row of 01's status table that applies, with what the note tells of it.
 #[derive(Clone, Copy)]
 pub enum Fault {
-    Well,
     EndByte,
     Sum,
     Code,
     Length(u8, u8),
     Parameter,
     Ident,
-    NotBlank(Note),
+    NotBlank(Option<Note>),
     Protected,
     PageNotBlank,
     Difference,
-}
-
-// A command frame judged: its first fault, or the order to be done.
-#[derive(Clone, Copy)]
-pub enum Judged {
-    Faulty(Fault),
-    Ordered(Order),
 }
 
 // The refusals that 01 and 02 number.
@@ -175,20 +142,7 @@ pub enum Refusal {
     P2,
 }
 
-// The answer of a power-on or a byte call: refused, or so many bytes answered.
-#[derive(Clone, Copy)]
-pub enum Call {
-    Refused(Refusal),
-    Answer(usize),
-}
-
-#[derive(Clone, Copy)]
-pub enum Verdict {
-    Accepted,
-    Refused(Refusal),
-}
-
-#[derive(Clone, Copy)]
+#[derive(Clone, Copy, PartialEq, Eq)]
 pub enum Kind {
     Erase,
     Write,
@@ -203,6 +157,15 @@ pub enum Kind {
 pub struct Flags {
     pub sf1: u8,
     pub sf2: u8,
+}
+
+impl Flags {
+    // A lock with them clears IFPR, bit 2 of SF2.
+    pub fn clears_ifpr(self) -> bool
+        ensures { result ≡ clears self }
+    {
+        self.sf2 / 4 % 2 == 0
+    }
 }
 
 // A step of a sheet: its kind, its blocks (of a lock its flags) and where its body stands in the sheet.
@@ -231,6 +194,7 @@ pub enum Stage {
 }
 
 // The status of a play: a byte of 01's table, or L1.
+// stays: no Option and no Result, since both are statuses that a report prints, and neither is an absence or hands anything on.
 #[derive(Clone, Copy)]
 pub enum Status {
     Byte(u8),
@@ -254,19 +218,4 @@ pub struct Report {
     pub steps: usize,
     pub frames: usize,
     pub pieces: usize,
-}
-
-// The answer of a player call: refused, a frame of so many bytes, or the end.
-#[derive(Clone, Copy)]
-pub enum Next {
-    Refused(Refusal),
-    Frame(usize),
-    End,
-}
-
-// The answer of a move of a sheet to the other form: a sheet of so many bytes, or the refusal.
-#[derive(Clone, Copy)]
-pub enum Moved {
-    Sheet(usize),
-    Refused(Refusal),
 }

@@ -11,77 +11,39 @@ pub struct Number {
     pub number: u8,
 }
 
-fn letter_of(refusal: Refusal) -> u8
-    ensures { result ≡ (refusal_number refusal).letter }
-{
-    match refusal {
-        Refusal::D0 => b'D',
-        Refusal::D1 => b'D',
-        Refusal::D2 => b'D',
-        Refusal::D3 => b'D',
-        Refusal::E1 => b'E',
-        Refusal::J1 => b'J',
-        Refusal::J2 => b'J',
-        Refusal::J3 => b'J',
-        Refusal::J4 => b'J',
-        Refusal::J5 => b'J',
-        Refusal::J6 => b'J',
-        Refusal::J7 => b'J',
-        Refusal::J8 => b'J',
-        Refusal::J9 => b'J',
-        Refusal::J10 => b'J',
-        Refusal::J11 => b'J',
-        Refusal::J12 => b'J',
-        Refusal::J13 => b'J',
-        Refusal::J14 => b'J',
-        Refusal::J15 => b'J',
-        Refusal::J16 => b'J',
-        Refusal::P1 => b'P',
-        Refusal::P2 => b'P',
-    }
-}
-
-fn number_of(refusal: Refusal) -> u8
-    ensures { result ≡ (refusal_number refusal).number }
-{
-    match refusal {
-        Refusal::D0 => 0,
-        Refusal::D1 => 1,
-        Refusal::D2 => 2,
-        Refusal::D3 => 3,
-        Refusal::E1 => 1,
-        Refusal::J1 => 1,
-        Refusal::J2 => 2,
-        Refusal::J3 => 3,
-        Refusal::J4 => 4,
-        Refusal::J5 => 5,
-        Refusal::J6 => 6,
-        Refusal::J7 => 7,
-        Refusal::J8 => 8,
-        Refusal::J9 => 9,
-        Refusal::J10 => 10,
-        Refusal::J11 => 11,
-        Refusal::J12 => 12,
-        Refusal::J13 => 13,
-        Refusal::J14 => 14,
-        Refusal::J15 => 15,
-        Refusal::J16 => 16,
-        Refusal::P1 => 1,
-        Refusal::P2 => 2,
-    }
-}
-
 // `J7` is the letter J and the number 7.
 pub fn refusal_number(refusal: Refusal) -> Number
     ensures { result ≡ refusal_number refusal }
 {
-    Number {
-        letter: letter_of(refusal),
-        number: number_of(refusal),
-    }
+    let (letter, number) = match refusal {
+        Refusal::D0 => (b'D', 0),
+        Refusal::D1 => (b'D', 1),
+        Refusal::D2 => (b'D', 2),
+        Refusal::D3 => (b'D', 3),
+        Refusal::E1 => (b'E', 1),
+        Refusal::J1 => (b'J', 1),
+        Refusal::J2 => (b'J', 2),
+        Refusal::J3 => (b'J', 3),
+        Refusal::J4 => (b'J', 4),
+        Refusal::J5 => (b'J', 5),
+        Refusal::J6 => (b'J', 6),
+        Refusal::J7 => (b'J', 7),
+        Refusal::J8 => (b'J', 8),
+        Refusal::J9 => (b'J', 9),
+        Refusal::J10 => (b'J', 10),
+        Refusal::J11 => (b'J', 11),
+        Refusal::J12 => (b'J', 12),
+        Refusal::J13 => (b'J', 13),
+        Refusal::J14 => (b'J', 14),
+        Refusal::J15 => (b'J', 15),
+        Refusal::J16 => (b'J', 16),
+        Refusal::P1 => (b'P', 1),
+        Refusal::P2 => (b'P', 2),
+    };
+    Number { letter, number }
 }
 
-// By it two kinds are compared.
+// By it kinds are told in numbers.
 pub fn kind_number(kind: Kind) -> u8
     ensures { result ≡ kind_number kind }
 {

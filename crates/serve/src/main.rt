@@ -7,14 +7,13 @@ mod end;
 mod files;
 mod stream;
 
-use end::End;
-use files::Log;
-use rules::{Call, Chip, Flash, Options};
+use end::Stop;
+use rules::{Chip, Flash, Options};
 use standin::call::{off, power_on};
 use std::env::Env;
 use std::io::{Input, Read, Write};
 use std::rt::Files;
-use text_script::chip_file::{ChipFile, Stated, lent};
+use text_script::chip_file::lent;
 
 // Room for the flashes of the larger chip.
 const CODE_ROOM: usize = 131072;
@@ -29,42 +28,33 @@ fn session<I: Read, W: Write>(
     log: &mut Option<W>,
     code: &mut [u8],
     data: &mut [u8],
-) -> End {
+) -> Result<(), Stop> {
     let powered = power_on(off(chip), o, &*code, &*data);
-    let call = powered.call;
-    if let Call::Refused(refusal) = call {
-        return End::Refused(refusal);
-    }
-    if !files::keep(log, b"!\n") {
-        return End::NoLog;
-    }
+    powered.call?;
+    files::keep(log, b"!\n")?;
     stream::serve_all(powered.device, input, log, code, data)
 }
 
 // The session has the chip's own part of the flashes.
-fn run<R: Env + Files + Input>(rt: &R, s: Stated, code: &mut [u8], data: &mut [u8]) -> End {
+fn run<R: Env + Files + Input>(rt: &R, code: &mut [u8], data: &mut [u8]) -> Result<(), Stop> {
+    let s = files::read_chip(rt, code, data)?;
     let chip = s.chip;
     let o = s.options;
     let m = lent(chip, Flash::Code, code.len());
     let n = lent(chip, Flash::Data, data.len());
-    match files::open_log(rt) {
-        Log::Failed => End::NoLog,
-        Log::Is(mut log) => session(
-            chip,
-            o,
-            &mut rt.reader(),
-            &mut log,
-            &mut code[0..m],
-            &mut data[0..n],
-        ),
-    }
+    let mut log = files::open_log(rt)?;
+    session(
+        chip,
+        o,
+        &mut rt.reader(),
+        &mut log,
+        &mut code[0..m],
+        &mut data[0..n],
+    )
 }
 
 fn main(rt: HostRuntime) {
     let mut code = [0u8; CODE_ROOM];
     let mut data = [0u8; DATA_ROOM];
-    match files::read_chip(&rt, &mut code, &mut data) {
-        ChipFile::States(s) => end::tell(run(&rt, s, &mut code, &mut data)),
-        ChipFile::BadLine(number) => end::no_chip(number),
-    }
+    end::tell(run(&rt, &mut code, &mut data));
 }

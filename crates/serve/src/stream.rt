@@ -1,7 +1,6 @@
 // The stream: each read takes what is there, and what it took goes to the chip turn by turn.
-use crate::end::End;
+use crate::end::Stop;
 use crate::files;
-use rules::Call;
 use standin::call::Device;
 use std::io::{Read, Write};
 use text_read::part;
@@ -16,99 +15,60 @@ const READ: usize = 1024;
 
 const ROOM: usize = 3124;
 
-// The chip after a read, and whether the session goes on.
-#[derive(Clone, Copy)]
-struct After {
-    device: Device,
-    end: End,
-}
-
-// How many bytes a call answered. None is refused: power-on has looked at the flashes, and a reply has the room that it needs.
-fn size_of(call: Call) -> usize {
-    match call {
-        Call::Answer(n) => n,
-        Call::Refused(_) => 0,
-    }
-}
-
 // A turn is kept in the log, if there is one; and then its answer is written.
-fn told<W: Write>(log: &mut Option<W>, sent: &[u8], answer: &[u8]) -> End {
+fn told<W: Write>(log: &mut Option<W>, sent: &[u8], answer: &[u8]) -> Result<(), Stop> {
     let mut text = [0u8; ROOM];
     let size = put_turn(&mut text, sent, answer);
-    if !files::keep(log, part::between(&text, 0, size)) {
-        return End::NoLog;
-    }
+    files::keep(log, part::between(&text, 0, size))?;
     if !io::write_all(1, answer) {
-        return End::NoOutput;
+        return Err(Stop::NoOutput);
     }
-    End::Well
+    Ok(())
 }
 
-fn is_well(how: End) -> bool {
-    match how {
-        End::Well => true,
-        _ => false,
-    }
-}
-
-// What a read took, turn by turn.
+// What a read took, turn by turn; the chip after it. No call is refused: power-on has looked at the flashes, and a reply has the room that it needs.
 fn serve_read<W: Write>(
     d: Device,
     bytes: &[u8],
     log: &mut Option<W>,
     code: &mut [u8],
     data: &mut [u8],
-) -> After {
+) -> Result<Device, Stop> {
     let mut device = d;
     let mut reply = [0u8; 16];
-    let mut at: usize = 0;
-    while at < bytes.len() {
-        let t = serve(device, part::rest(bytes, at), code, data, &mut reply);
+    let mut left = bytes;
+    while !left.is_empty() {
+        let t = serve(device, left, code, data, &mut reply);
         device = t.device;
-        let call = t.call;
-        let size = size_of(call);
-        let next = at + t.sent;
-        let end = told(
-            log,
-            part::between(bytes, at, next),
-            part::between(&reply, 0, size),
-        );
-        if !is_well(end) {
-            return After { device, end };
-        }
-        at = next;
+        let size = t.call.unwrap_or(0);
+        let (sent, rest) = left.split_at(t.sent);
+        told(log, sent, part::between(&reply, 0, size))?;
+        left = rest;
     }
-    After {
-        device,
-        end: End::Well,
-    }
+    Ok(device)
 }
 
 // Read after read, until the input ends.
+// stays: a range would count the reads, and the most is of bytes, of which a read takes one or many.
 pub(crate) fn serve_all<I: Read, W: Write>(
     d: Device,
     input: &mut I,
     log: &mut Option<W>,
     code: &mut [u8],
     data: &mut [u8],
-) -> End {
+) -> Result<(), Stop> {
     let mut device = d;
     let mut bytes = [0u8; READ];
     let mut taken: u64 = 0;
     while taken < MOST {
         let Ok(n) = input.read(&mut bytes) else {
-            return End::NoInput;
+            return Err(Stop::NoInput);
         };
         if n == 0 {
-            return End::Well;
+            return Ok(());
         }
-        let a = serve_read(device, part::between(&bytes, 0, n), log, code, data);
-        device = a.device;
-        let end = a.end;
-        if !is_well(end) {
-            return end;
-        }
+        device = serve_read(device, part::between(&bytes, 0, n), log, code, data)?;
         taken += n as u64;
     }
-    End::Well
+    Ok(())
 }

@@ -14,17 +14,15 @@ use Rattle.rules.specs.declared.Block.{Block}
 use Rattle.rules.specs.declared.Flash.{Flash}
 use Rattle.rules.specs.declared.Flash.TheVariants.{Code}
 use Rattle.rules.specs.declared.Kind.TheVariants.{Erase, Write, Verify, Sum, Blank, Lock}
-use Rattle.rules.specs.declared.Range.{Range}
-use Rattle.rules.specs.declared.Range.TheVariants.{Blocks, Invalid}
+use Rattle.rules.specs.Answers.{Range, Blocks, Invalid, Accepted}
 use Rattle.rules.specs.declared.Step.{Step}
-use Rattle.rules.specs.declared.Verdict.TheVariants.{Accepted}
 use Rattle.rules.specs.Chip.{small, large, block, blocks, blocks_from, block_size, page_size, invalid}
 use Rattle.rules.specs.Sheet.{form_two, chip_number, two, one, against, head_size, count, table_end, most_bytes, last_kind, kind_at, sad_at, ead_at, flags_at, is_lock, filled, clears, is_last, offset_at, offset_due, range_at, J6, J12, body_length, body_end, verdict, kind_of, step_of, step_at, step_blocks, step_pages, body_page}
 use Rattle.rules.specs.Numbers.{kind_number}
 use Rattle.rules.proofs.Sheet.{EntryAllowed, sheet_accepted, accepted_allowed, chip_named_lem}
 use Rattle.rules.proofs.WritesTwice.{Twice, twice_J13}
 use Rattle.rules.proofs.Choices.{both, neither}
-use Rattle.sheet.specs.declared.Reading.TheVariants.{Is}
+use Rattle.sheet.specs.Answers.{Is}
 use Rattle.sheet.specs.Reading.{reading_at}
 use Rattle.sheet.specs.Entry.{length_of}
 use Rattle.sheet.proofs.Fields.{one_span}

@@ -1,12 +1,14 @@
 -- Laws of the entries one after another, from any entry on and for so many left. Assumes nothing.
-use mathlib.Core.Path.{◌≡◌}
+use mathlib.Core.Path.{◌≡◌, refl}
 use mathlib.Core.List.{List}
 use Prim.Native.Nat.{ℕ, ◌+◌}
 use native.Mathlib.Numerals.{add-one}
 use Rattle.rules.specs.declared.Chip.{Chip}
 use Rattle.rules.specs.declared.Refusal.{Refusal}
-use Rattle.rules.specs.declared.Verdict.TheVariants.{Accepted, Refused}
+use Rattle.std.specs.Prelude.{Result, Ok, Err}
+use Rattle.rules.specs.Answers.{Verdict, Accepted, Refused}
 use Rattle.rules.specs.Sheet.{entry_verdict, entries_verdict}
+use Rattle.sheet.specs.Entry.{ended}
 
 module _ (chip : Chip) (s : List ℕ) (i : ℕ) where
   pub none_left : (left : ℕ) → left ≡ 0 → entries_verdict chip s i left ≡ Accepted
@@ -21,3 +23,14 @@ module _ (chip : Chip) (s : List ℕ) (i : ℕ) where
     pub one_accepted : entry_verdict chip s i ≡ Accepted → entries_verdict chip s i left ≡ entries_verdict chip s (i + 1) rest
     unfolding entries_verdict
     one_accepted e = rw (more, add-one rest, e)
+
+-- what the entries came to, of what they are said to have come to
+pub ended_well : (v : Verdict) (due end : ℕ) → ◌≡◌ {A = Result ℕ Refusal} (Ok end) (ended v due) → (v ≡ Accepted) × (end ≡ due)
+unfolding ended
+ended_well Accepted due end e = (refl, cc)
+ended_well (Refused n) due end e = absurd cc
+
+pub ended_badly : (v : Verdict) (due : ℕ) (n : Refusal) → ◌≡◌ {A = Result ℕ Refusal} (Err n) (ended v due) → v ≡ Refused n
+unfolding ended
+ended_badly Accepted due n e = absurd cc
+ended_badly (Refused m) due n e = cc

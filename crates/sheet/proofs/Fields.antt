@@ -1,13 +1,15 @@
 -- Laws of the fields of the head and of an entry: those of an entry are those of the bytes from it on. Assumes nothing.
 use mathlib.Core.Path.{◌≡◌, refl, sym, ap, ◌∙◌}
 use mathlib.Core.Bool.{Bool, true, false, cond, ◌||◌}
-use mathlib.Core.List.{List}
-use Prim.Native.Nat.{ℕ, ◌+◌, ◌-◌, ◌<◌, ◌≤◌}
+use mathlib.Core.List.{List, ◌++◌}
+use Prim.Native.Nat.{ℕ, zero, suc, ◌+◌, ◌-◌, ◌*◌, ◌<◌, ◌≤◌}
 use native.Mathlib.Omega.{arith}
-use lib.Dec.{eqb}
-use borrow.Author.Tests.{eq-eqb, ne_eqb, eqb-false}
-use lib.ListN.{length, take, drop, length-drop}
-use lib.Seq.{take_all, drop-drop, get_or-drop}
+use lib.Dec.{eqb, ltb}
+use borrow.Author.Tests.{eq-eqb, ne_eqb, eqb-false, ltb-true, ltb-false}
+use lib.ListN.{length, take, drop, get_or, replicate, length-drop, length-replicate, get_or-append, get_or-replicate, get_or-eq_default}
+use lib.Seq.{take_all, drop-drop, get_or-drop, get_or-append_right}
+use Rattle.std.proofs.lemmas.List.{get_or-take}
+use Rattle.std.specs.Simd.{first_chunks}
 use Rattle.rules.specs.declared.Address.{Address}
 use Rattle.rules.specs.declared.Chip.{Chip}
 use Rattle.rules.specs.Chip.{byte_at, word_at, address_at, range}
@@ -59,9 +61,6 @@ from n s = take_all (length s - n) (drop n s) (rw length-drop (omega arith))
 pub length_from : (n : ℕ) (s : List ℕ) → length (take (length s - n) (drop n s)) ≡ length s - n
 length_from n s = ap length (from n s) ∙ length-drop n s
 
-pub from_twice : (n m : ℕ) (s t : List ℕ) → t ≡ take (length s - n) (drop n s) → take (length t - m) (drop m t) ≡ drop (n + m) s
-from_twice n m s t e = from m t ∙ ap (λ x. drop m x) (e ∙ from n s) ∙ drop-drop m n s
-
 -- ---- a field, by its place behind a place ----
 
 module _ (n : ℕ) (s : List ℕ) where
@@ -79,6 +78,46 @@ pub entry_there : (s : List ℕ) (i : ℕ) (e : List ℕ) → e ≡ drop (entry_
 entry_there s i e h =
     let n = entry_at s i in
     cc (h, byte_there n s 0 n (omega arith), address_there n s 1 (n + 1) refl, address_there n s 4 (n + 4) refl, byte_there n s 7 (n + 7) refl, word_there n s 8 (n + 8) refl, word_there n s 10 (n + 10) refl)
+
+-- those of bytes that are the same as far as an entry reaches
+same_fields : (e f : List ℕ) → ((k : ℕ) → k < 12 → byte_at e k ≡ byte_at f k) → fields_of e ≡ fields_of f
+same_fields e f h =
+    rw (h 0 (omega arith), h 1 (omega arith), h 2 (omega arith), h 3 (omega arith), h 4 (omega arith), h 5 (omega arith), h 6 (omega arith), h 7 (omega arith), h 8 (omega arith), h 9 (omega arith), h 10 (omega arith), h 11 (omega arith))
+
+-- those of an entry that is cut short, with zeros behind it
+zeros : (n k j : ℕ) → ◌≡◌ {A = ℕ} (get_or (drop k (replicate n 0)) j 0) 0
+zeros n k j = get_or-drop k (replicate n 0) j 0 ∙ go (ltb (k + j) n) refl
+  where
+    go : (t : Bool) → ltb (k + j) n ≡ t → ◌≡◌ {A = ℕ} (get_or (replicate n 0) (k + j) 0) 0
+    go true h = get_or-replicate n (k + j) 0 0 (ltb-true (k + j) n h)
+    go false h = let l = ltb-false (k + j) n h in get_or-eq_default (replicate n 0) 0 (rw (length-replicate {A = ℕ} n 0) (omega arith))
+
+behind : (e z : List ℕ) (k : ℕ) → ((j : ℕ) → get_or z j 0 ≡ 0) → byte_at (e ++ z) k ≡ byte_at e k
+behind e z k h = go (ltb k (length e)) refl
+  where
+    go : (t : Bool) → ltb k (length e) ≡ t → byte_at (e ++ z) k ≡ byte_at e k
+    go true l = get_or-append e z 0 k (ltb-true k (length e) l)
+    go false l =
+        let o = ltb-false k (length e) l in
+        get_or-append_right e z k 0 o ∙ h (k - length e) ∙ sym (get_or-eq_default e 0 o)
+
+pub cut_fields : (e : List ℕ) (n k : ℕ) → fields_of (e ++ drop k (replicate n 0)) ≡ fields_of e
+cut_fields e n k = same_fields (e ++ drop k (replicate n 0)) e (λ j _. behind e (drop k (replicate n 0)) j (zeros n k))
+
+-- the bytes of an entry in a table, cut in pieces of twelve
+chunk_at : (m i : ℕ) (s d : List ℕ) → i < m → get_or (first_chunks 12 m s) i d ≡ take 12 (drop (12 * i) s)
+chunk_at zero i s d h = absurd (omega arith)
+chunk_at (suc m) zero s d h = refl
+chunk_at (suc m) (suc i) s d h =
+    let e : 12 + 12 * i ≡ 12 * suc i = omega arith in
+    chunk_at m i (drop 12 s) d (omega arith) ∙ ap (take 12) (drop-drop (12 * i) 12 s ∙ ap (λ (n : ℕ). drop n s) e)
+
+pub table_read : (s : List ℕ) (size n m i : ℕ) (d : List ℕ) → size ≡ head_size s → i < n → n ≤ m
+    → fields_of (get_or (take n (first_chunks 12 m (drop size s))) i d) ≡ entry_in s i
+table_read s size n m i d z l o =
+    ap fields_of (get_or-take n (first_chunks 12 m (drop size s)) i d l ∙ chunk_at m i (drop size s) d (omega arith))
+    ∙ same_fields (take 12 (drop (12 * i) (drop size s))) (drop (12 * i) (drop size s)) (λ k h. get_or-take 12 (drop (12 * i) (drop size s)) k 0 h)
+    ∙ entry_there s i (drop (12 * i) (drop size s)) (drop-drop (12 * i) size s ∙ ap (λ (k : ℕ). drop (k + 12 * i) s) z)
 
 -- what an entry that was read says of the sheet
 pub record Says (s : List ℕ) (i : ℕ) (e : Entry) : Type 0 where

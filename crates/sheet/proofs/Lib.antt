@@ -4,4 +4,3 @@ pub mod Entries
 pub mod Ranges
 pub mod Verdicts
 pub mod Marks
-pub mod Taken

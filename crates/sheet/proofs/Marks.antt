@@ -2,22 +2,20 @@
 -- where it writes a block that does. Assumes nothing.
 use mathlib.Core.Path.{◌≡◌, refl, sym, ap, subst, ◌∙◌}
 use mathlib.Core.Bool.{Bool, true, false, cond, ◌&&◌}
-use mathlib.Core.List.{List}
-use Prim.Native.Nat.{ℕ, ◌+◌, ◌-◌, ◌*◌, ◌<◌, ◌≤◌}
+use mathlib.Core.List.{List, []}
+use Prim.Native.Nat.{ℕ, ◌+◌, ◌-◌, ◌<◌, ◌≤◌}
 use native.Mathlib.Numerals.{add-one}
 use native.Mathlib.Omega.{arith}
 use lib.Dec.{ltb, leb, eqb}
-use lib.ListN.{length, get_or, take, drop, replicate, length-replicate, get_or-replicate, get_or-eq_default}
+use lib.ListN.{length, get_or, replicate, length-replicate, get_or-replicate, get_or-eq_default}
 use borrow.Author.Tests.{lt-ltb, le-ltb, leb-true, leb-false, ne_eqb, eqb-true, eqb-false, ltb-true, ltb-false, not-false}
 use Rattle.rules.specs.declared.Chip.{Chip}
 use Rattle.rules.specs.declared.Block.{Block}
 use Rattle.rules.specs.declared.Flash.{Flash}
 use Rattle.rules.specs.declared.Flash.TheVariants.{Code, Data}
-use Rattle.rules.specs.declared.Range.{Range}
-use Rattle.rules.specs.declared.Range.TheVariants.{Blocks}
+use Rattle.rules.specs.Answers.{Range, Blocks, Accepted}
 use Rattle.rules.specs.Chip.{Memory, small, large, same_flash, start, flash_size, blocks, blocks_from, flash_of, with_flash, invalid}
-use Rattle.rules.specs.declared.Verdict.TheVariants.{Accepted}
-use Rattle.rules.specs.Sheet.{form_two, chip_number, against, head_size, count, entry_at, entries_verdict, kind_at, sad_at, ead_at, range_at, last_kind, covers, written, any_from, any_written, writes_again, J13}
+use Rattle.rules.specs.Sheet.{form_two, chip_number, against, count, entries_verdict, kind_at, sad_at, ead_at, range_at, last_kind, covers, written, any_from, any_written, writes_again, J13}
 use Rattle.rules.proofs.Sheet.{EntryAllowed, entries_allowed}
 use Rattle.rules.proofs.WritesTwice.{once_each}
 use Rattle.rules.proofs.Choices.{both}
@@ -26,10 +24,9 @@ use Rattle.chip_finder.proofs.Held.{valid_held}
 use Rattle.sheet_marks.specs.Marks.{cleared, Marked, marked}
 use Rattle.sheet_marks.proofs.Rows.{Stand, among, cleared_stand, cleared_length, marked_again, marked_stand, marked_length}
 use Rattle.sheet.specs.declared.table.Entry.{Entry}
-use Rattle.sheet.specs.Entry.{entry_in, fields_of}
+use Rattle.sheet.specs.Entry.{entry_in, fields_of, IsTable}
 use Rattle.sheet_marks.specs.Taken.{row_taken, Taken, step_taken}
 use Rattle.sheet.specs.Taken.{entry_taken}
-use Rattle.sheet.proofs.Fields.{from, entry_there}
 use Rattle.sheet.proofs.Ranges.{Ranged, ranged}
 
 -- ---- a step more: what stands written after it ----
@@ -258,46 +255,45 @@ too_few s h = once_each s (λ i j f b l m w v. omega arith)
 
 -- ---- the entries one after another ----
 
--- what is to be judged: the sheet's own head, as many entries as it says, all accepted, and nothing marked yet
-pub record Asked (s : List ℕ) (head n : ℕ) (code dat : List ℕ) : Type 0 where
-  pub head_is : head ≡ head_size s
-  pub count_is : n ≡ count s
+-- what is to be judged: the entries of a sheet, all accepted, and nothing marked yet
+pub record Asked (s : List ℕ) (table : List (List ℕ)) (code dat : List ℕ) : Type 0 where
+  pub table_is : IsTable s table
   pub accepted : entries_verdict (against s) s 0 (count s) ≡ Accepted
   pub code_free : code ≡ replicate 64 0
   pub data_free : dat ≡ replicate 32 0
 
 -- before entry i: the marks, and that the entries from there on decide
-pub record Going (s : List ℕ) (n i : ℕ) (m : Memory) : Type 0 where
+pub record Going (s : List ℕ) (i : ℕ) (m : Memory) : Type 0 where
   pub marks : Marks s i m
-  pub rest : J13 s ≡ any_from (writes_again s) i (n - i)
+  pub rest : J13 s ≡ any_from (writes_again s) i (count s - i)
 
-module _ (s : List ℕ) (head n : ℕ) (code dat : List ℕ) (asked : Asked s head n code dat) where
-  pub going_first : Going s n 0 (memory code dat)
+module _ (s : List ℕ) (table : List (List ℕ)) (code dat : List ℕ) (asked : Asked s table code dat) where
+  pub going_first : Going s 0 (memory code dat)
   going_first =
       record {
         marks = marks_first s (memory code dat) asked.code_free asked.data_free;
-        rest = ap (any_from (writes_again s) 0) (omega (arith, asked.count_is));
+        rest = ap (any_from (writes_again s) 0) (omega arith);
       }
 
-  module _ (i : ℕ) (m : Memory) (going : Going s n i m) (l : i < n) (t : Taken) where
-    -- the entry as it is cut from the sheet
-    pub going_next : t ≡ entry_taken (fields_of (take (length s - (head + 12 * i)) (drop (head + 12 * i) s))) m → Next s i t
-    going_next e =
-        let at : head + 12 * i ≡ entry_at s i = ap (λ (h : ℕ). h + 12 * i) asked.head_is in
-        let cut = from (head + 12 * i) s ∙ ap (λ (k : ℕ). drop k s) at in
-        let told = e ∙ ap (λ (x : Entry). entry_taken x m) (entry_there s i (take (length s - (head + 12 * i)) (drop (head + 12 * i) s)) cut) in
-        let allowed = entries_allowed (against s) s 0 (count s) asked.accepted i (omega arith) (omega (arith, asked.count_is)) in
-        subst (Next s i) (sym told) (entry_next s i m allowed going.marks)
+  module _ (i : ℕ) (m : Memory) (going : Going s i m) (l : i < length table) (t : Taken) where
+    some_entry : i < count s
+    some_entry = omega (arith, asked.table_is.0)
+
+    -- the entry as it is read
+    pub going_next : (e : Entry) → e ≡ fields_of (get_or table i []) → t ≡ entry_taken e m → Next s i t
+    going_next e h told =
+        let allowed = entries_allowed (against s) s 0 (count s) asked.accepted i (omega arith) (omega (arith, some_entry)) in
+        subst (Next s i) (sym (told ∙ ap (λ (x : Entry). entry_taken x m) (h ∙ asked.table_is.1 i [] some_entry))) (entry_next s i m allowed going.marks)
 
     pub ends_again : Next s i t → t.again ≡ true → J13 s ≡ true
-    ends_again x h = going.rest ∙ one_again (writes_again s) i (n - i) (n - (i + 1)) (omega arith) (sym x.again ∙ h)
+    ends_again x h = going.rest ∙ one_again (writes_again s) i (count s - i) (count s - (i + 1)) (omega (arith, some_entry)) (sym x.again ∙ h)
 
-    pub goes_on_lem : Next s i t → t.again ≡ false → Going s n (i + 1) t.rows
+    pub goes_on_lem : Next s i t → t.again ≡ false → Going s (i + 1) t.rows
     goes_on_lem x h =
         record {
           marks = x.marks h;
-          rest = going.rest ∙ one_once (writes_again s) i (n - i) (n - (i + 1)) (omega arith) (sym x.again ∙ h);
+          rest = going.rest ∙ one_once (writes_again s) i (count s - i) (count s - (i + 1)) (omega (arith, some_entry)) (sym x.again ∙ h);
         }
 
-  pub ends_once : (i : ℕ) (m : Memory) → Going s n i m → n ≤ i → J13 s ≡ false
-  ends_once i m g l = g.rest ∙ none_again (writes_again s) i (n - i) (omega arith)
+  pub ends_once : (i : ℕ) (m : Memory) → Going s i m → length table ≤ i → J13 s ≡ false
+  ends_once i m g l = g.rest ∙ none_again (writes_again s) i (count s - i) (omega (arith, asked.table_is.0))

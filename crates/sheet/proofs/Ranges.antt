@@ -11,7 +11,7 @@ use Rattle.rules.specs.declared.Flash.{Flash}
 use Rattle.rules.specs.declared.Flash.TheVariants.{Code, Data}
 use Rattle.rules.specs.declared.Address.{Address}
 use Rattle.rules.specs.declared.Block.{Block}
-use Rattle.rules.specs.declared.Range.TheVariants.{Blocks}
+use Rattle.rules.specs.Answers.{Blocks}
 use Rattle.rules.specs.Chip.{start, blocks, block_size, block_at, blocks_from, flash_size, within, begins, ends, pair_in, range, invalid}
 use Rattle.rules.proofs.Choices.{both, each_of_five}
 use Rattle.chip_finder.proofs.Geometry.{size_bounds}

@@ -9,13 +9,13 @@ use borrow.Author.Tests.{lt-ltb, le-ltb, ltb-false, le-leb, lt-leb, eq-eqb, ne_e
 use Rattle.rules.specs.declared.Chip.{Chip}
 use Rattle.rules.specs.declared.Refusal.{Refusal}
 use Rattle.rules.specs.declared.Refusal.TheVariants as r
-use Rattle.rules.specs.declared.Verdict.TheVariants.{Accepted, Refused}
+use Rattle.rules.specs.Answers.{Accepted, Refused}
 use Rattle.rules.specs.Chip.{known}
 use Rattle.rules.specs.First.{first}
 use Rattle.rules.proofs.Choices.{or_true, and_false}
 use Rattle.rules.proofs.Sheet.{unbroken}
 use Rattle.rules.specs.Sheet.{against, head_size, count, table_end, most_bytes, last_kind, kind_at, zero_at, offset_at, offset_due, body_end, J1, J2, J3, J4, J6, J9, J11, J12, J13, J14, head_verdict, entry_verdict, entries_verdict, sheet_verdict, verdict, step_at}
-use Rattle.sheet.specs.declared.Reading.TheVariants.{Is, NoStep}
+use Rattle.sheet.specs.Answers.{Is, NoStep}
 use Rattle.sheet.specs.Reading.{reading_at}
 
 -- ---- the head ----

@@ -1,9 +1,11 @@
 -- An entry of a sheet by its fields. Assumes nothing.
-use Rattle.std.specs.Prelude.{ℕ, ◌+◌, ◌-◌, ◌*◌, ◌/◌, ◌%◌, Bool, cond, not, ◌&&◌, ◌||◌, List, eqb}
+use Rattle.std.specs.Prelude.{ℕ, ◌+◌, ◌-◌, ◌*◌, ◌/◌, ◌%◌, Bool, cond, not, ◌&&◌, ◌||◌, List, eqb, Result, Ok, Err, ◌≡◌, ◌<◌, length, get_or}
 use Rattle.rules.specs.declared.Address.{Address}
 use Rattle.rules.specs.declared.Chip.{Chip}
+use Rattle.rules.specs.declared.Refusal.{Refusal}
+use Rattle.rules.specs.Answers.{Verdict, Accepted, Refused}
 use Rattle.rules.specs.Chip.{byte_at, word_at, address_at, range, invalid}
-use Rattle.rules.specs.Sheet.{kind_at, sad_at, ead_at, flags_of, zero_at, offset_at, lock_kind, clears}
+use Rattle.rules.specs.Sheet.{count, kind_at, sad_at, ead_at, flags_of, zero_at, offset_at, lock_kind, clears}
 use Rattle.sheet.specs.declared.table.Entry.{Entry}
 
 -- the fields of entry i
@@ -28,6 +30,10 @@ fields_of e =
       offset = word_at e 8 + 65536 * word_at e 10;
     }
 
+-- the entries of sheet s, each by its bytes
+abbrev pub IsTable : List ℕ → List (List ℕ) → Type 0
+IsTable s t = (length t ≡ count s) × ((i : ℕ) (d : List ℕ) → i < count s → fields_of (get_or t i d) ≡ entry_in s i)
+
 -- `body_length` and `body_end`, of the fields
 unfoldable pub length_of : ℕ → Address → Address → ℕ
 length_of kind sad ead = cond (eqb kind 2 || eqb kind 3) (ead.0 - sad.0 + 1) 0
@@ -42,3 +48,8 @@ pair_wrong chip e = not (eqb e.kind lock_kind) && invalid (range chip e.sad e.ea
 unfoldable pub lock_wrong : Entry → Bool → Bool
 lock_wrong e last =
     eqb e.kind lock_kind && (clears (flags_of e.sad) && not last || not (eqb (e.sad.0 / 65536 % 256) 0 && eqb e.ead.0 0))
+
+-- the entries judged: where the last body ends, or the refusal
+unfoldable pub ended : Verdict → ℕ → Result ℕ Refusal
+ended Accepted end = Ok end
+ended (Refused n) end = Err n

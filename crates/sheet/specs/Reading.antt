@@ -1,11 +1,9 @@
 -- Step i of a sheet for a reader that has not judged it. Assumes nothing.
 use Rattle.std.specs.Prelude.{ℕ, cond, List, ltb}
-use Rattle.rules.specs.declared.Verdict.{Verdict}
-use Rattle.rules.specs.declared.Verdict.TheVariants.{Accepted, Refused}
+use Rattle.rules.specs.Answers.{Verdict, Accepted, Refused}
 use Rattle.rules.specs.Numbers.{kind_number}
 use Rattle.rules.specs.Sheet.{against, count, sheet_verdict, step_at}
-use Rattle.sheet.specs.declared.Reading.{Reading}
-use Rattle.sheet.specs.declared.Reading.TheVariants.{Is, NoStep}
+use Rattle.sheet.specs.Answers.{Reading, Is, NoStep}
 
 abbrev reading : Verdict → Reading → Reading
 reading Accepted r = r

@@ -1,255 +1,170 @@
 // The rules: D0 and J1 to J14 in the order of the documents, each with its own return. No body is read.
 ghost use Rattle.std.specs.Prelude.{◌≡◌, ◌&&◌, not, ℕ, ◌+◌, ◌*◌, ◌<◌, ◌≤◌, length};
-ghost use Rattle.rules.specs.declared.Verdict.TheVariants.{Accepted};
 ghost use Rattle.rules.specs.Numbers.{verdict_number};
-ghost use Rattle.rules.specs.Sheet.{form_two, count, last_kind, clears, is_last, offset_due, J11, J14, head_verdict, entry_verdict, entries_verdict, sheet_verdict, verdict};
-ghost use Rattle.sheet.specs.Entry.{entry_in, pair_wrong, lock_wrong};
+ghost use Rattle.rules.specs.Sheet.{count, table_end, clears, offset_due, J11, J14, head_verdict, entry_verdict, entries_verdict, sheet_verdict, verdict};
+ghost use Rattle.sheet.specs.Entry.{entry_in, ended, pair_wrong, lock_wrong};
 ghost use Rattle.sheet.specs.Head.{head_in, form_of};
 
-use crate::table::{ENTRY_SIZE, Entry, Head, against, body_end, flags_of, head_of, whole_entry};
+use crate::table::{Entry, Head, Headed, LOCK, against, body_end, flags_of, whole_entry};
 use crate::twice::written_twice;
-use chip_finder::{is_invalid, is_known, range, same_counts};
+use chip_finder::{is_known, range};
 use octets::numbers::{byte_at, high_byte};
-use rules::{Chip, Flags, Refusal, Verdict};
+use rules::{Chip, Flags, Refusal};
 
 // How many steps a sheet has at most; by its form, how many bytes, and the number of its last kind.
 const MOST_STEPS: usize = 64;
 
-fn most_bytes(two: bool) -> usize
-    ensures { result ≡ (form_of two).most }
-{
-    if two {
-        return 65540;
+impl Head {
+    fn most_bytes(self) -> usize
+        ensures { result ≡ (form_of self.two).most }
+    {
+        if self.two { 65540 } else { 65536 }
     }
-    65536
-}
 
-fn last_kind(two: bool) -> u8
-    ensures { result ≡ (form_of two).kinds }
-{
-    if two {
-        return 6;
+    fn last_kind(self) -> u8
+        ensures { result ≡ (form_of self.two).kinds }
+    {
+        if self.two { 6 } else { 4 }
     }
-    4
 }
 
 // J11: a form 2 sheet names chip 1 or 2, and a zero byte stands behind.
-fn no_chip_named(two: bool, sheet: &[u8]) -> bool
-    requires { two ≡ form_two sheet.now }
-    ensures { result ≡ J11 sheet.now }
+fn no_chip_named(sheet: Headed) -> bool
+    ensures { result ≡ J11 sheet.entry.bytes.now }
 {
-    if !two {
-        return false;
-    }
-    let chip = byte_at(sheet, 2);
-    if byte_at(sheet, 3) != 0 {
-        return true;
-    }
-    if chip == 1 {
-        return false;
-    }
-    chip != 2
+    sheet.head.two && (byte_at(sheet.bytes, 3) != 0 || !matches!(byte_at(sheet.bytes, 2), 1 | 2))
 }
 
 // J1, J2, J11 and J3: the length, the count, the chip, and the table.
-fn head_verdict(head: Head, sheet: &[u8]) -> Verdict
-    requires { head ≡ head_in sheet.now }
-    ensures { result ≡ head_verdict sheet.now }
+#[tactic(auto, using(crate::proofs::Fields::heads), unfolding(rules::specs::Sheet::head_verdict, rules::specs::First::first))]
+fn head_verdict(sheet: Headed) -> Result<(), Refusal>
+    ensures { result ≡ head_verdict sheet.entry.bytes.now }
 {
-    if sheet.len() < head.size {
-        return Verdict::Refused(Refusal::J1);
-    }
-    if most_bytes(head.two) < sheet.len() {
-        return Verdict::Refused(Refusal::J1);
+    let head = sheet.head;
+    let size = sheet.bytes.len();
+    if size < head.size || head.most_bytes() < size {
+        return Err(Refusal::J1);
     }
     if MOST_STEPS < head.count {
-        return Verdict::Refused(Refusal::J2);
+        return Err(Refusal::J2);
     }
-    if no_chip_named(head.two, sheet) {
-        return Verdict::Refused(Refusal::J11);
+    if no_chip_named(sheet) {
+        return Err(Refusal::J11);
     }
-    let table = head.size + ENTRY_SIZE * head.count;
-    if sheet.len() < table {
-        return Verdict::Refused(Refusal::J3);
+    if size < sheet.table_end() {
+        return Err(Refusal::J3);
     }
-    Verdict::Accepted
-}
-
-// The kind that has flags where the others have addresses.
-const LOCK: u8 = 6;
-
-// Bit 2 of SF2 is IFPR.
-fn clears_ifpr(f: Flags) -> bool
-    ensures { result ≡ clears f }
-{
-    f.sf2 / 4 % 2 == 0
-}
-
-// A lock that clears IFPR and is not the last step.
-fn clears_early(f: Flags, last: bool) -> bool
-    ensures { result ≡ clears f && not last }
-{
-    if !clears_ifpr(f) {
-        return false;
-    }
-    !last
+    Ok(())
 }
 
 // J6: no valid pair; a lock has none.
+#[tactic(auto, unfolding(crate::specs::Entry::pair_wrong))]
 fn pair_wrong(chip: Chip, e: Entry) -> bool
     ensures { result ≡ pair_wrong chip e }
 {
-    if e.kind == LOCK {
-        return false;
-    }
-    is_invalid(range(chip, e.sad, e.ead))
+    e.kind != LOCK && range(chip, e.sad, e.ead).is_none()
 }
 
 // J12: a lock that clears IFPR and is not the last step, or whose filler is not zero.
+#[tactic(auto, unfolding(crate::specs::Entry::lock_wrong))]
 fn lock_wrong(e: Entry, last: bool) -> bool
     ensures { result ≡ lock_wrong e last }
 {
-    if e.kind != LOCK {
-        return false;
-    }
-    if clears_early(flags_of(e.sad), last) {
-        return true;
-    }
-    let sad = e.sad;
-    if high_byte(sad.0) != 0 {
-        return true;
-    }
-    let ead = e.ead;
-    ead.0 != 0
+    let filled = high_byte(e.sad.0) == 0 && e.ead.0 == 0;
+    e.kind == LOCK && (flags_of(e.sad).clears_ifpr() && !last || !filled)
 }
 
-// J4 to J8 and J12 of an entry, given the last kind, the offset that it must say and whether it is the last entry: the rules in order.
-fn entry_verdict(chip: Chip, sheet: &[u8], e: Entry, most: u8, due: usize, last: bool) -> Verdict
-    ensures { (i : ℕ) → e ≡ entry_in sheet.now i → most ≡ last_kind sheet.now → due ≡ offset_due sheet.now i → last ≡ is_last sheet.now i → result ≡ entry_verdict chip sheet.now i }
+// J4 to J8 and J12 of entry i, given the offset that it must say: the rules in order.
+fn entry_verdict(chip: Chip, sheet: Headed, i: usize, e: Entry, due: usize) -> Result<(), Refusal>
+    requires entry_value { (i < count sheet.bytes.now) × (e ≡ entry_in sheet.bytes.now i) }
+    requires due_value { due ≡ offset_due sheet.bytes.now i }
+    ensures { result ≡ entry_verdict chip sheet.entry.bytes.now i }
 {
-    let kind = e.kind;
-    let zero = e.zero;
+    let head = sheet.head;
+    if e.kind < 1 || head.last_kind() < e.kind {
+        return Err(Refusal::J4);
+    }
+    if e.zero != 0 {
+        return Err(Refusal::J5);
+    }
     let no_pair = pair_wrong(chip, e);
-    let no_lock = lock_wrong(e, last);
-    let offset = e.offset as usize;
-    let end = body_end(e);
-    if kind < 1 {
-        return Verdict::Refused(Refusal::J4);
-    }
-    if most < kind {
-        return Verdict::Refused(Refusal::J4);
-    }
-    if zero != 0 {
-        return Verdict::Refused(Refusal::J5);
-    }
     if no_pair {
-        return Verdict::Refused(Refusal::J6);
+        return Err(Refusal::J6);
     }
-    if no_lock {
-        return Verdict::Refused(Refusal::J12);
+    if lock_wrong(e, i + 1 == head.count) {
+        return Err(Refusal::J12);
     }
-    if offset != due {
-        return Verdict::Refused(Refusal::J7);
+    if e.offset as usize != due {
+        return Err(Refusal::J7);
     }
-    if sheet.len() < end {
-        return Verdict::Refused(Refusal::J8);
+    if sheet.bytes.len() < body_end(e) {
+        return Err(Refusal::J8);
     }
-    Verdict::Accepted
+    Ok(())
 }
 
-// The verdict on the entries, and where the last body ends if they are accepted.
-#[derive(Clone, Copy)]
-struct Entries {
-    verdict: Verdict,
-    end: usize,
-}
-
-// The entries, one after another. The table is all there, so no byte of it has to be asked for.
-fn entries_verdict(chip: Chip, head: Head, sheet: &[u8]) -> Entries
-    requires head_value { (head ≡ head_in sheet.now) × (head.size ≤ 12) × (head.count < 65536) }
-    requires count_in_bounds { head.size + 12 * head.count ≤ length sheet.now }
-    ensures verdict_value { result.verdict ≡ entries_verdict chip sheet.now 0 (count sheet.now) }
-    ensures end_value { result.verdict ≡ Accepted → result.end ≡ offset_due sheet.now (count sheet.now) }
+// The entries, one after another, and where the last body ends. The table is all there, so no byte of it has to be asked for.
+fn entries_verdict(chip: Chip, sheet: Headed) -> Result<usize, Refusal>
+    requires { table_end sheet.bytes.now ≤ length sheet.bytes.now }
+    ensures { result ≡ ended (entries_verdict chip sheet.entry.bytes.now 0 (count sheet.entry.bytes.now)) (offset_due sheet.entry.bytes.now (count sheet.entry.bytes.now)) }
 {
-    let size = head.size;
-    let n = head.count;
-    let most = last_kind(head.two);
-    let mut i = 0;
-    // the offset that entry i must say: the end of the table, then that of the body before
-    let mut due = size + ENTRY_SIZE * n;
-    while i < n {
-        let at = size + ENTRY_SIZE * i;
-        let e = whole_entry(&sheet[at..]);
-        if let Verdict::Refused(refusal) = entry_verdict(chip, sheet, e, most, due, i + 1 == n) {
-            return Entries {
-                verdict: Verdict::Refused(refusal),
-                end: due,
-            };
-        }
+    // the offset that an entry must say: the end of the table, then that of the body before
+    let mut due = sheet.table_end();
+    for (i, bytes) in sheet.entries().iter().enumerate() {
+        let e = whole_entry(bytes);
+        entry_verdict(chip, sheet, i, e, due)?;
         due = body_end(e);
-        i += 1;
     }
-    Entries {
-        verdict: Verdict::Accepted,
-        end: due,
-    }
+    Ok(due)
 }
 
 // The sheet's own rules, J1 to J9 and J11 to J13, judged against the chip that it names, for a caller that has read the head.
-fn own_verdict(head: Head, sheet: &[u8]) -> Verdict
-    requires { (head ≡ head_in sheet.now) × (head.size ≤ 12) × (head.count < 65536) }
-    ensures { result ≡ sheet_verdict sheet.now }
+#[tactic(auto, using(crate::proofs::Entries::ended_well, crate::proofs::Entries::ended_badly, crate::proofs::Verdicts::table_there), unfolding(rules::specs::Sheet::sheet_verdict, rules::specs::First::first, crate::specs::Entry::ended))]
+fn own_verdict(sheet: Headed) -> Result<(), Refusal>
+    ensures { result ≡ sheet_verdict sheet.entry.bytes.now }
 {
-    if let Verdict::Refused(refusal) = head_verdict(head, sheet) {
-        return Verdict::Refused(refusal);
-    }
-    let entries = entries_verdict(against(sheet), head, sheet);
-    let judged = entries.verdict;
-    if let Verdict::Refused(refusal) = judged {
-        return Verdict::Refused(refusal);
-    }
+    head_verdict(sheet)?;
+    let end = entries_verdict(against(sheet.bytes), sheet)?;
     // bytes are left over behind the last body
-    if sheet.len() != entries.end {
-        return Verdict::Refused(Refusal::J9);
+    if sheet.bytes.len() != end {
+        return Err(Refusal::J9);
     }
-    if written_twice(head, sheet) {
-        return Verdict::Refused(Refusal::J13);
+    if written_twice(sheet) {
+        return Err(Refusal::J13);
     }
-    Verdict::Accepted
+    Ok(())
 }
 
 // The same, for a caller that has not read it.
-pub fn sheet_verdict(sheet: &[u8]) -> Verdict
+pub fn sheet_verdict(sheet: &[u8]) -> Result<(), Refusal>
     ensures { result ≡ sheet_verdict sheet.now }
 {
-    own_verdict(head_of(sheet), sheet)
+    own_verdict(Headed::new(sheet))
 }
 
 // J14: the chip to be played to is another than the sheet's.
 fn other_chip(chip: Chip, sheet: &[u8]) -> bool
     ensures { result ≡ J14 chip sheet.now }
 {
-    let own = against(sheet);
-    !same_counts(chip, own)
+    chip != against(sheet)
 }
 
 // The verdict on a sheet for a chip, with room for so many sums: D0, its own rules, J14, then J10.
-pub fn verdict(chip: Chip, sheet: &[u8], room: usize) -> Verdict
+#[tactic(auto, unfolding(rules::specs::Sheet::verdict, rules::specs::First::first))]
+pub fn verdict(chip: Chip, sheet: &[u8], room: usize) -> Result<(), Refusal>
     ensures value { result ≡ verdict chip sheet.now room }
     ensures result_value { verdict_number result ≡ verdict_number (verdict chip sheet.now room) }
 {
     if !is_known(chip) {
-        return Verdict::Refused(Refusal::D0);
+        return Err(Refusal::D0);
     }
-    let head = head_of(sheet);
-    if let Verdict::Refused(refusal) = own_verdict(head, sheet) {
-        return Verdict::Refused(refusal);
-    }
+    let headed = Headed::new(sheet);
+    own_verdict(headed)?;
     if other_chip(chip, sheet) {
-        return Verdict::Refused(Refusal::J14);
+        return Err(Refusal::J14);
     }
-    if room < head.count {
-        return Verdict::Refused(Refusal::J10);
+    if room < headed.head.count {
+        return Err(Refusal::J10);
     }
-    Verdict::Accepted
+    Ok(())
 }

@@ -2,22 +2,20 @@
 ghost use Rattle.std.specs.Prelude.{◌≡◌};
 ghost use Rattle.sheet.specs.Reading.{reading_at, reading_number};
 
-use crate::Reading;
 use crate::judge::sheet_verdict;
 use crate::steps::step_at;
 use crate::table::{against, count};
-use rules::Verdict;
+use rules::Step;
 
 // Step i of an accepted sheet, on the chip that it names.
-pub fn read_step(sheet: &[u8], i: usize) -> Reading
+#[tactic(auto, unfolding(crate::specs::Reading::reading_at))]
+pub fn read_step(sheet: &[u8], i: usize) -> Option<Step>
     ensures value { result ≡ reading_at sheet.now i }
     ensures result_value { reading_number result ≡ reading_number (reading_at sheet.now i) }
 {
-    if let Verdict::Refused(_) = sheet_verdict(sheet) {
-        return Reading::NoStep;
-    }
+    sheet_verdict(sheet).ok()?;
     if count(sheet) <= i {
-        return Reading::NoStep;
+        return None;
     }
-    Reading::Is(step_at(against(sheet), sheet, i))
+    Some(step_at(against(sheet), sheet, i))
 }

@@ -4,49 +4,35 @@ ghost use Rattle.rules.specs.Sheet.{kind_of, step_of, step_at, step_blocks, step
 ghost use Rattle.rules.specs.Run.{most_frames};
 
 use crate::table::{entry_at, flags_of};
-use rules::{Block, Chip, Flags, Flash, Kind, Range, Step};
+use rules::{Block, Chip, Flags, Flash, Kind, Step};
 
+// stays: no `From`, since every number without a kind is Sum here (`kind_of` of rules), which no conversion should say.
 fn kind_of(k: u8) -> Kind
     ensures { result ≡ kind_of k }
 {
-    if k == 1 {
-        return Kind::Erase;
+    match k {
+        1 => Kind::Erase,
+        2 => Kind::Write,
+        3 => Kind::Verify,
+        5 => Kind::Blank,
+        6 => Kind::Lock,
+        _ => Kind::Sum,
     }
-    if k == 2 {
-        return Kind::Write;
-    }
-    if k == 3 {
-        return Kind::Verify;
-    }
-    if k == 5 {
-        return Kind::Blank;
-    }
-    if k == 6 {
-        return Kind::Lock;
-    }
-    Kind::Sum
 }
 
-fn step_of(kind: Kind, range: Range, flags: Flags, body: usize) -> Step
+// A lock names no blocks, and is given the first.
+#[tactic(auto, unfolding(rules::specs::Sheet::step_of))]
+fn step_of(kind: Kind, range: Option<(Flash, Block, Block)>, flags: Flags, body: usize) -> Step
     ensures { result ≡ step_of kind range flags body }
 {
-    match range {
-        Range::Blocks(flash, first, last) => Step {
-            kind,
-            flash,
-            first,
-            last,
-            flags,
-            body,
-        },
-        Range::Invalid => Step {
-            kind,
-            flash: Flash::Code,
-            first: Block(0),
-            last: Block(0),
-            flags,
-            body,
-        },
+    let (flash, first, last) = range.unwrap_or((Flash::Code, Block(0), Block(0)));
+    Step {
+        kind,
+        flash,
+        first,
+        last,
+        flags,
+        body,
     }
 }
 
@@ -63,35 +49,23 @@ pub fn step_at(chip: Chip, sheet: &[u8], i: usize) -> Step
 pub fn step_blocks(t: Step) -> usize
     ensures { (result ≡ step_blocks t) × (result ≤ 65536) }
 {
-    let first = t.first;
-    let last = t.last;
-    if last.0 < first.0 {
-        return 0;
-    }
-    let after = last.0 as usize + 1;
-    after - first.0 as usize
+    (usize::from(t.last.0) + 1).saturating_sub(usize::from(t.first.0))
 }
 
 pub fn step_pages(t: Step) -> usize
     ensures { (result ≡ step_pages t) × (result ≤ 524288) }
 {
-    let flash = t.flash;
-    step_blocks(t) * chip_finder::pages_per_block(flash)
+    step_blocks(t) * chip_finder::pages_per_block(t.flash)
 }
 
 // The most frames that a step can take.
+#[tactic(auto, unfolding(rules::specs::Run::most_frames, rules::specs::Run::most_for))]
 pub fn most_frames(t: Step) -> usize
     ensures { (result ≡ most_frames t) × (result ≤ 524289) }
 {
-    let kind = t.kind;
-    let blocks = step_blocks(t);
-    let pages = step_pages(t);
-    match kind {
-        Kind::Erase => blocks,
-        Kind::Write => 1 + pages,
-        Kind::Verify => 1 + pages,
-        Kind::Sum => 1,
-        Kind::Blank => 1,
-        Kind::Lock => 1,
+    match t.kind {
+        Kind::Erase => step_blocks(t),
+        Kind::Write | Kind::Verify => 1 + step_pages(t),
+        Kind::Sum | Kind::Blank | Kind::Lock => 1,
     }
 }

@@ -8,7 +8,7 @@ use lib.Dec.{eqb, ltb}
 use lib.ListN.{length, get_or-eq_default}
 use borrow.Author.Tests.{ltb-true, eqb-true, lt-ltb, ne_eqb}
 use Rattle.rules.specs.declared.Refusal.TheVariants as r
-use Rattle.rules.specs.declared.Verdict.TheVariants.{Refused}
+use Rattle.rules.specs.Answers.{Refused}
 use Rattle.rules.specs.First.{first}
 use Rattle.rules.specs.Chip.{byte_at, word_at, small}
 use Rattle.rules.specs.Sheet.{form_two, chip_number, against, head_size, count, most_bytes, last_kind}

@@ -11,8 +11,7 @@ use Rattle.rules.specs.declared.Flags.{Flags}
 use Rattle.rules.specs.declared.Kind.{Kind}
 use Rattle.rules.specs.declared.Kind.TheVariants.{Erase, Write, Verify, Sum, Blank, Lock}
 use Rattle.rules.specs.declared.Options.{Options}
-use Rattle.rules.specs.declared.Range.{Range}
-use Rattle.rules.specs.declared.Range.TheVariants.{Blocks, Invalid}
+use Rattle.rules.specs.Answers.{Range, Blocks, Invalid}
 use Rattle.rules.specs.declared.Step.{Step}
 use Rattle.rules.specs.Chip.{Memory, page_size, block_size, block, first_page, put_page, erase_block}
 use Rattle.rules.specs.Sheet.{count, kind_at, flags_at, offset_at, range_at, kind_of, step_of, step_at, step_blocks, step_pages, step_body, body_page}

@@ -6,8 +6,7 @@ use Prim.Native.Nat.{ℕ, zero, suc, ◌+◌, ◌<◌, ◌≤◌}
 use native.Mathlib.Omega.{arith}
 use lib.Dec.{eqb}
 use Rattle.rules.specs.declared.Flash.{Flash}
-use Rattle.rules.specs.declared.Range.{Range}
-use Rattle.rules.specs.declared.Range.TheVariants.{Blocks, Invalid}
+use Rattle.rules.specs.Answers.{Range, Blocks, Invalid}
 use Rattle.rules.specs.Chip.{blocks_from}
 use Rattle.rules.specs.Sheet.{against, count, kind_at, range_at, written, any_from, any_written, writes_again, J13}
 

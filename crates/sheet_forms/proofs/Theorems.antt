@@ -5,7 +5,7 @@ use mathlib.Core.List.{List}
 use Prim.Native.Nat.{ℕ, ◌+◌, ◌-◌}
 use native.Mathlib.Omega.{arith}
 use lib.ListN.{length}
-use Rattle.rules.specs.declared.Moved.TheVariants.{Sheet}
+use Rattle.rules.specs.Answers.{Sheet}
 use Rattle.rules.specs.Chip.{over}
 use Rattle.rules.specs.Move.{Moving, moved_up, moved_down, up_closed, down_closed, move_up, move_down}
 use Rattle.rules.proofs.Sheet.{sheet_allowed, allowed_sheet}

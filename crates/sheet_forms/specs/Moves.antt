@@ -4,8 +4,7 @@ use Rattle.std.specs.Prelude.{ℕ, ◌+◌, ◌-◌, ◌<◌, ◌≤◌, ◌≡�
 use Rattle.rules.specs.declared.Chip.{Chip}
 use Rattle.rules.specs.declared.Options.{Options}
 use Rattle.rules.specs.declared.Step.{Step}
-use Rattle.rules.specs.declared.Moved.TheVariants.{Sheet}
-use Rattle.rules.specs.declared.Verdict.TheVariants.{Accepted}
+use Rattle.rules.specs.Answers.{Sheet, Accepted}
 use Rattle.rules.specs.Chip.{Memory, byte_at, small, over}
 use Rattle.rules.specs.Sheet.{form_two, chip_number, against, count, kind_at, sheet_verdict, step_at, step_body, body_page}
 use Rattle.rules.specs.Meaning.{meaning}

@@ -1,8 +1,7 @@
 -- 02, M-106: "A form 1 reader sees a count of 766 and names J2, or J1 above its size limit". Assumes nothing.
 use Rattle.std.specs.Prelude.{ℕ, ◌≡◌, true, cond, ◌||◌, List, [], ◌∷◌, ltb, length}
 use Rattle.rules.specs.declared.Refusal.TheVariants as r
-use Rattle.rules.specs.declared.Verdict.{Verdict}
-use Rattle.rules.specs.declared.Verdict.TheVariants.{Refused}
+use Rattle.rules.specs.Answers.{Verdict, Refused}
 use Rattle.rules.specs.First.{refuse, first_broken}
 use Rattle.rules.specs.Chip.{word_at}
 use Rattle.rules.specs.Sheet.{form_two, one, most_steps}

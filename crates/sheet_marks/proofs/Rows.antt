@@ -1,17 +1,21 @@
 -- Laws of rows of marks: one block more, none left, past the last mark; and what every mark is after an erase and after a write. Assumes nothing.
 use mathlib.Core.Path.{◌≡◌, refl, sym, ap, ◌∙◌}
 use mathlib.Core.Bool.{Bool, true, false, cond, ◌&&◌, ◌||◌, false≢true}
-use mathlib.Core.List.{List}
-use Prim.Native.Nat.{ℕ, zero, suc, ◌+◌, ◌≤◌, ◌<◌}
+use mathlib.Core.List.{List, ◌++◌}
+use Prim.Native.Nat.{ℕ, zero, suc, ◌+◌, ◌-◌, min, ◌≤◌, ◌<◌}
 use native.Mathlib.Numerals.{add-one}
 use native.Mathlib.Omega.{arith}
 use lib.Dec.{eqb, leb, ltb}
-use lib.ListN.{length, get_or, set, length-set, get_or-eq_default}
-use lib.Seq.{set_out, get_or-set_same, get_or-set_other}
+use lib.ListN.{length, take, drop, get_or, set, length-set, get_or-eq_default}
+use lib.Seq.{set_out, get_or-set_same, get_or-set_other, take-suc-set, drop-drop, drop-cons}
+use borrow.Rule.Slice.PartMut.{put_mid}
+use Rattle.std.specs.Prelude.{replicate}
+use Rattle.std.specs.List.{prefix_len}
+use Rattle.std.proofs.lemmas.List.{take-append-drop, drop-set-lt, append_assoc}
 use borrow.Author.Tests.{eqb-true, eqb-false, eq-eqb, ne_eqb, le-leb, lt-leb, leb-true, ltb-true, ltb-false, lt-ltb, le-ltb}
 use Rattle.rules.proofs.Choices.{either}
 use Rattle.rules.specs.Sheet.{any_from}
-use Rattle.sheet_marks.specs.Marks.{cleared, marked}
+use Rattle.sheet_marks.specs.Marks.{cleared, Marked, marked}
 
 -- ---- one block after the other ----
 
@@ -57,6 +61,99 @@ rest_cleared (suc left) b row h = past_cleared (suc left) b row (h (omega arith)
 pub rest_marked : (left b : ℕ) (row : List ℕ) → (0 < left → length row ≤ b) → marked b left row ≡ record { again = false; row = row }
 rest_marked zero b row h = none_marked b row 0 refl
 rest_marked (suc left) b row h = past_marked (suc left) b row (h (omega arith))
+
+-- so many marks of the row, filled at once; more blocks there are only where the row ends
+pub cleared_filled : (k b left : ℕ) (row : List ℕ) → k ≤ left → b + k ≤ length row → (k < left → length row ≤ b + k)
+    → cleared b left row ≡ take b row ++ (replicate k 0 ++ drop (b + k) row)
+cleared_filled zero b left row o l h =
+    let e : b + 0 ≡ b = omega arith in
+    rw e (rest_cleared left b row (λ some. omega (arith, h some)) ∙ sym (take-append-drop b row))
+cleared_filled (suc k) b left row o l h =
+    one_cleared b row left (left - 1) (omega arith)
+    ∙ cleared_filled k (b + 1) (left - 1) (set row b 0) (omega arith) (rw (length-set row b 0) (omega arith)) (λ some. rw (length-set row b 0) (omega (arith, h (omega arith))))
+    ∙ (let e : suc b + k ≡ b + suc k = omega arith in
+    rw (add-one b, take-suc-set row b 0 (omega arith), drop-set-lt (suc b + k) row b 0 (omega arith), append_assoc, e))
+
+-- the marks of the blocks from f to l, in the row
+pub places_cleared : (f l start end k : ℕ) (row : List ℕ) → start ≡ min f end → end ≡ min (l + 1) (length row) → k ≡ end - start
+    → put_mid start (end - start) row (replicate k 0) ≡ cleared f (l + 1 - f) row
+places_cleared f l start end k row s e n = go (ltb start end) refl
+  where
+    go : (t : Bool) → ltb start end ≡ t → put_mid start (end - start) row (replicate k 0) ≡ cleared f (l + 1 - f) row
+    go true h =
+        let o = ltb-true start end h in
+        let g : start ≡ f = omega arith in
+        rw (← n, g, drop-drop k f row) (sym (cleared_filled k f (l + 1 - f) row (omega arith) (omega arith) (λ some. omega arith)))
+    go false h =
+        let o = ltb-false start end h in
+        let g : end - start ≡ 0 = omega arith in
+        rw (n, g, take-append-drop) (sym (rest_cleared (l + 1 - f) f row (λ some. omega arith)))
+
+-- one more is free, and filled
+more_fewer : (j w : ℕ) → ltb (suc j) (suc w) ≡ ltb j w
+more_fewer j w = go (ltb j w) refl
+  where
+    go : (t : Bool) → ltb j w ≡ t → ltb (suc j) (suc w) ≡ t
+    go true h = let o = ltb-true j w h in lt-ltb (suc j) (suc w) (omega arith)
+    go false h = let o = ltb-false j w h in le-ltb (suc j) (suc w) (omega arith)
+
+one_filled : (w k j b : ℕ) (row : List ℕ) → b < length row → k ≡ suc j
+    → ◌≡◌ {A = Marked} (record { again = ltb j w; row = take (b + 1) (set row b 1) ++ (replicate j 1 ++ drop (b + 1 + j) (set row b 1)) })
+    (record { again = ltb k (suc w); row = take b row ++ (replicate k 1 ++ drop (b + k) row) })
+one_filled w k j b row l n =
+    let z : suc b + j ≡ b + suc j = omega arith in
+    rw (n, ← more_fewer j w, add-one b, take-suc-set row b 1 l, drop-set-lt (suc b + j) row b 1 (omega arith), append_assoc, z)
+
+-- so many blocks that the row has, of which k at the front are free
+pub marked_filled : (w k b left : ℕ) (row : List ℕ) → w ≤ left → b + w ≤ length row → (w < left → length row ≤ b + w)
+    → k ≡ prefix_len (λ m. eqb m 0) (take w (drop b row))
+    → marked b left row ≡ record { again = ltb k w; row = take b row ++ (replicate k 1 ++ drop (b + k) row) }
+marked_filled zero k b left row o l h e =
+    let z : b + 0 ≡ b = omega arith in
+    rw (e, z, take-append-drop) (rest_marked left b row (λ some. omega (arith, h some)))
+marked_filled (suc w) k b left row o l h e =
+    go (eqb (get_or row b 0) 0) refl
+    (marked_filled w j (b + 1) (left - 1) (set row b 1) (omega arith) (rw (length-set row b 1) (omega arith)) (λ some. rw (length-set row b 1) (omega (arith, h (omega arith)))) (rw (drop-set-lt (b + 1) row b 1 (omega arith))))
+  where
+    j : ℕ
+    j = prefix_len (λ m. eqb m 0) (take w (drop (b + 1) row))
+
+    front : (t : Bool) → eqb (get_or row b 0) 0 ≡ t → k ≡ cond t (1 + j) 0
+    front t q = e ∙ rw (drop-cons row b 0 (omega arith), add-one b, q)
+
+    go : (t : Bool) → eqb (get_or row b 0) 0 ≡ t
+        → marked (b + 1) (left - 1) (set row b 1) ≡ record { again = ltb j w; row = take (b + 1) (set row b 1) ++ (replicate j 1 ++ drop (b + 1 + j) (set row b 1)) }
+        → marked b left row ≡ record { again = ltb k (suc w); row = take b row ++ (replicate k 1 ++ drop (b + k) row) }
+    go true q later =
+        one_marked b row left (left - 1) (omega arith) (eqb-true (get_or row b 0) 0 q)
+        ∙ later
+        ∙ one_filled w k j b row (omega arith) (omega (arith, front true q))
+    go false q later =
+        let z : b + 0 ≡ b = omega arith in
+        one_again b row left (left - 1) (omega arith) (eqb-false (get_or row b 0) 0 q)
+        ∙ rw (front false q, z, take-append-drop, lt-ltb 0 (suc w) (omega arith))
+
+-- the marks of the blocks from f to l, in the row
+pub places_marked : (f l start end k m : ℕ) (row : List ℕ) → start ≡ min f end → end ≡ min (l + 1) (length row) → m ≡ k
+    → k ≡ prefix_len (λ m. eqb m 0) (take (end - start) (drop start row))
+    → ◌≡◌ {A = Marked} (record { again = ltb k (end - start); row = put_mid start (start + k - start) row (replicate m 1) }) (marked f (l + 1 - f) row)
+places_marked f l start end k m row s e n p = go (ltb start end) refl
+  where
+    at : put_mid start (start + k - start) row (replicate m 1) ≡ take start row ++ (replicate k 1 ++ drop (start + k) row)
+    at = let z : start + k - start ≡ k = omega arith in rw (z, n, drop-drop k start row)
+
+    go : (t : Bool) → ltb start end ≡ t
+        → ◌≡◌ {A = Marked} (record { again = ltb k (end - start); row = put_mid start (start + k - start) row (replicate m 1) }) (marked f (l + 1 - f) row)
+    go true h =
+        let o = ltb-true start end h in
+        let g : start ≡ f = omega arith in
+        rw (at) (sym (rw (← g) (marked_filled (end - start) k start (l + 1 - start) row (omega arith) (omega arith) (λ some. omega arith) p)))
+    go false h =
+        let o = ltb-false start end h in
+        let g : end - start ≡ 0 = omega arith in
+        let q : k ≡ 0 = p ∙ rw g in
+        let z : start + 0 ≡ start = omega arith in
+        rw (at, q, g, z, take-append-drop) (sym (rest_marked (l + 1 - f) f row (λ some. omega arith)))
 
 -- ---- what every mark is ----
 

@@ -2,8 +2,7 @@
 -- Assumes nothing.
 use Rattle.std.specs.Prelude.{ℕ, Bool, false, cond, List, eqb}
 use Rattle.rules.specs.declared.Block.{Block}
-use Rattle.rules.specs.declared.Range.{Range}
-use Rattle.rules.specs.declared.Range.TheVariants.{Blocks, Invalid}
+use Rattle.rules.specs.Answers.{Range, Blocks, Invalid}
 use Rattle.rules.specs.Chip.{Memory, flash_of, with_flash, blocks_from}
 use Rattle.sheet_marks.specs.Marks.{cleared, Marked, marked}
 

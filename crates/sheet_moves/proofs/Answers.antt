@@ -1,15 +1,17 @@
 -- The answer of a move: with its number, and one outcome; and the sizes by which a call is judged. Assumes nothing.
 use mathlib.Core.Path.{◌≡◌, sym, ap, ◌∙◌}
-use mathlib.Core.Bool.{false}
+use mathlib.Core.Bool.{false, false≢true}
 use mathlib.Core.List.{List}
-use Prim.Native.Nat.{ℕ, ◌+◌, ◌-◌, ◌≤◌}
+use Prim.Native.Nat.{ℕ, ◌≤◌}
 use native.Mathlib.Omega.{arith}
 use lib.ListN.{length}
-use Rattle.rules.specs.declared.Moved.{Moved}
-use Rattle.rules.specs.declared.Verdict.TheVariants.{Accepted}
-use Rattle.rules.specs.Sheet.{form_two, head_size, table_end, sheet_verdict}
-use Rattle.rules.specs.Move.{Moving, moved_number, moved_up, moved_down, down_closed}
+use Rattle.rules.specs.Answers.{Moved, Accepted}
+use Rattle.rules.specs.Sheet.{head_size, table_end, sheet_verdict}
+use Rattle.rules.specs.Move.{Moving, moved_number}
 use Rattle.rules.proofs.Sheet.{sheet_allowed}
+use Rattle.sheet_moves.specs.declared.way.Way.{Way}
+use Rattle.sheet_moves.specs.declared.way.Way.TheVariants.{Up, Down}
+use Rattle.sheet_moves.specs.Way.{is_up, closed, moved, shifted}
 use Rattle.sheet_forms.proofs.Heads.{head_two}
 use Rattle.sheet_forms.proofs.Moved.{up_length, down_length}
 use Rattle.sheet_forms.proofs.Outcomes.{down_told}
@@ -32,11 +34,10 @@ module _ (s : List ℕ) (ok : sheet_verdict s ≡ Accepted) where
   pub table : table_end s ≤ length s
   table = table_there s (sheet_allowed s ok)
 
-  pub size_up : form_two s ≡ false → length (moved_up s) ≡ length s + 4
-  size_up form = up_length s form table
+  pub moved_size : (w : Way) → closed w s ≡ false → length (moved w s) ≡ shifted (is_up w) (length s)
+  moved_size Up form = up_length s form table
+  moved_size Down way = down_length s (down_told s way).form table
 
-  pub size_down : down_closed s ≡ false → length (moved_down s) ≡ length s - 4
-  size_down way = down_length s (down_told s way).form table
-
-  pub head_down : down_closed s ≡ false → 6 ≤ head_size s
-  head_down way = omega (arith, head_two s (down_told s way).form)
+  pub head_down : (w : Way) → is_up w ≡ false → closed w s ≡ false → 6 ≤ head_size s
+  head_down Up down way = absurd (false≢true (sym down))
+  head_down Down down way = omega (arith, head_two s (down_told s way).form)

@@ -1,11 +1,12 @@
 -- Laws of the bytes as they are put, and of the entries as they are looked through for a new kind. Assumes nothing.
-use mathlib.Core.Path.{◌≡◌, sym, ◌∙◌}
-use mathlib.Core.Bool.{true, false}
+use mathlib.Core.Path.{◌≡◌, refl, sym, ap, ◌∙◌}
+use mathlib.Core.Bool.{◌||◌}
 use mathlib.Core.List.{List, [], ◌∷◌, ◌++◌}
-use Prim.Native.Nat.{ℕ, suc, ◌+◌, ◌-◌, ◌<◌, ◌≤◌}
+use Prim.Native.Nat.{ℕ, zero, suc, ◌+◌, ◌-◌, ◌<◌, ◌≤◌}
 use native.Mathlib.Omega.{arith}
 use lib.ListN.{length, take, drop, length-drop}
 use lib.Seq.{take_all}
+use Rattle.std.specs.List.{list_any, range_with_len}
 use Rattle.rules.specs.Sheet.{count, table_end, entry_at, kind_at, offset_at}
 use Rattle.rules.specs.Move.{long_bytes, entries_moved, moved_up, moved_down, is_new, any_new}
 use Rattle.text_out.specs.Out.{Out, add}
@@ -51,15 +52,7 @@ module _ (s : List ℕ) (o : Out) where
 
 -- ---- looked through ----
 
-module _ (s : List ℕ) (i n : ℕ) where
-  pub new_here : i < n → is_new (kind_at s i) ≡ true → any_new s i (n - i) ≡ true
-  unfolding any_new
-  new_here h e = let k : n - i ≡ suc (n - (i + 1)) = omega arith in rw (k, e)
-
-  pub new_later : i < n → is_new (kind_at s i) ≡ false → any_new s i (n - i) ≡ any_new s (i + 1) (n - (i + 1))
-  unfolding any_new
-  new_later h e = let k : n - i ≡ suc (n - (i + 1)) = omega arith in rw (k, e)
-
-  pub new_end : n ≤ i → any_new s i (n - i) ≡ false
-  unfolding any_new
-  new_end h = let k : n - i ≡ 0 = omega arith in rw k
+pub any_in_order : (s : List ℕ) (i left : ℕ) → list_any (λ k. is_new (kind_at s k)) (range_with_len i left) ≡ any_new s i left
+unfolding any_new
+any_in_order s i zero = refl
+any_in_order s i (suc left) = ap (λ t. is_new (kind_at s i) || t) (any_in_order s (i + 1) left)

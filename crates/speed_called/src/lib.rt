@@ -39,8 +39,8 @@ pub extern "C" fn rattle_called_once(
         reply,
     );
     match changed {
-        Change::Refused(_) => 0,
-        Change::Held(n) => n,
-        Change::Whole(h) => h.answered,
+        Err(_) => 0,
+        Ok(Change::Held(n)) => n,
+        Ok(Change::Whole(h)) => h.answered,
     }
 }

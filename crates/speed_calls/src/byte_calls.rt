@@ -1,6 +1,6 @@
 // The stand-in takes bytes one by one, through the engine.
-use crate::digest::{less_of, mixed, mixed_bytes, number_of};
-use rules::{Call, Options, Phase, Task};
+use crate::digest::{mixed, mixed_bytes, number_of};
+use rules::{Options, Phase, Refusal, Task};
 use standin_engine::{Change, byte_change};
 use standin_state::Core;
 use standin_state::resting::{at_rest, powered};
@@ -29,14 +29,14 @@ fn told(sum: usize, n: usize, reply: &[u8], shown: usize) -> usize {
     if n == 0 {
         return sum;
     }
-    mixed_bytes(mixed(sum, n), reply, less_of(n, shown))
+    mixed_bytes(mixed(sum, n), reply, n.min(shown))
 }
 
 // What a byte call answered: its size and its bytes, or its refusal.
-pub fn answered(sum: usize, call: Call, reply: &[u8], shown: usize) -> usize {
+pub fn answered(sum: usize, call: Result<usize, Refusal>, reply: &[u8], shown: usize) -> usize {
     match call {
-        Call::Answer(n) => told(sum, n, reply, shown),
-        Call::Refused(refusal) => mixed(sum, number_of(refusal)),
+        Ok(n) => told(sum, n, reply, shown),
+        Err(refusal) => mixed(sum, number_of(refusal)),
     }
 }
 
@@ -53,16 +53,15 @@ pub fn each_byte(
     let chip = chip_finder::small();
     let mut core = starting(start);
     let mut sum: usize = 0;
-    for i in 0..bytes.len() {
-        let changed = byte_change(chip, core, bytes[i], held, code, data, reply);
-        match changed {
-            Change::Refused(refusal) => {
+    for &byte in bytes {
+        match byte_change(chip, core, byte, held, code, data, reply) {
+            Err(refusal) => {
                 sum = mixed(sum, number_of(refusal));
             }
-            Change::Held(n) => {
+            Ok(Change::Held(n)) => {
                 core.have = n;
             }
-            Change::Whole(h) => {
+            Ok(Change::Whole(h)) => {
                 core = h.core;
                 sum = told(sum, h.answered, &*reply, shown);
             }

@@ -9,25 +9,10 @@ pub fn mixed(sum: usize, number: usize) -> usize {
 // The first `n` bytes of a slice, or those that it has.
 pub fn mixed_bytes(sum: usize, s: &[u8], n: usize) -> usize {
     let mut all = sum;
-    for i in 0..n {
-        if i == s.len() {
-            return all;
-        }
-        all = mixed_byte(all, s[i]);
+    for &byte in s.iter().take(n) {
+        all = mixed(all, usize::from(byte));
     }
     all
-}
-
-fn mixed_byte(sum: usize, byte: u8) -> usize {
-    mixed(sum, byte as usize)
-}
-
-// The smaller of two numbers.
-pub fn less_of(a: usize, b: usize) -> usize {
-    if a < b {
-        return a;
-    }
-    b
 }
 
 // A refusal by its letter and number, apart from every size.

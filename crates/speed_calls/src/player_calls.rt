@@ -1,8 +1,8 @@
 // Player calls on a sheet, with replies that are given.
-use crate::digest::{less_of, mixed, mixed_bytes, number_of};
+use crate::digest::{mixed, mixed_bytes, number_of};
 use player::call::next;
 use player_absorb::new_player;
-use rules::{Next, Player, Report, Status};
+use rules::{Player, Refusal, Report, Status};
 
 // The reply to a frame, by its start byte and, of a command, its code: the ACK, a pair of 06h, or the ACK and a sum, which stand in this
 // order in `all`.
@@ -30,20 +30,11 @@ fn reply_to<'a>(replies: &'a [u8], last: bool, start: u8, code: u8) -> &'a [u8] 
     reply_in(&replies[0..22], start, code)
 }
 
-fn size_of(next: Next) -> usize {
-    match next {
-        Next::Refused(_) => 0,
-        Next::Frame(n) => n,
-        Next::End => 0,
-    }
-}
-
 // What a call gave, as a number.
-fn given_number(next: Next) -> usize {
+fn given_number(next: Result<Option<usize>, Refusal>) -> usize {
     match next {
-        Next::Refused(refusal) => number_of(refusal),
-        Next::Frame(n) => n,
-        Next::End => 0,
+        Err(refusal) => number_of(refusal),
+        Ok(size) => size.unwrap_or(0),
     }
 }
 
@@ -87,12 +78,12 @@ fn call_once(
     let reply = reply_to(replies, last, frame[0], frame[2]);
     let c = next(chip_finder::small(), sheet, p, reply, frame, sums);
     let given = c.next;
-    let n = size_of(given);
+    let n = given.ok().flatten().unwrap_or(0);
     let r = c.report;
     let sum = mixed_bytes(
         reported(mixed(t.sum, given_number(given)), r),
         &*frame,
-        less_of(n, shown),
+        n.min(shown),
     );
     let player = c.player;
     Turn { player, sum }
@@ -113,7 +104,7 @@ pub fn rattle_player(
         sum: 0,
     };
     let mut left: usize = 0;
-    for k in 0..calls {
+    for _ in 0..calls {
         if left == 0 {
             let sum = t.sum;
             t = Turn {

@@ -37,6 +37,7 @@ pub extern "C" fn rattle_frames(
     let mut core = starting(start);
     let mut sum: usize = 0;
     let mut at: usize = 0;
+    // stays: frames differ in length, so the place goes on by where the frame ends
     while at < bytes.len() {
         let end = frame_end(bytes, at);
         let t = frame_core(chip, core, &bytes[at..end], held, code, data, reply);

@@ -6,6 +6,8 @@ use speed_calls::byte_calls::waiting;
 use speed_play::outcome;
 
 // A new player plays the sheet to a fresh large chip in phase Command.
+// stays: `rattle_play` of `speed_play` differs in the chip alone; C calls the entries by their names, and one function for both, lent the same eight things
+// and the chip, would be no plainer: each would still be this call.
 #[unsafe(no_mangle)]
 pub extern "C" fn rattle_play_large(
     sheet: &[u8],

@@ -1,7 +1,7 @@
 // What is measured of a whole play, through the entry of `speed_play_c`.
 #![tactic(auto)]
 
-use joined::Answer;
+use joined::NotPlayed;
 use joined::whole::play;
 use player::report::report;
 use rules::Player;
@@ -10,12 +10,12 @@ use speed_calls::digest::{mixed, number_of};
 use speed_calls::player_calls::reported;
 
 // What a play came to: its answer, and of one that was played the report and the size of the last answer.
-pub fn outcome(answer: Answer, p: Player, arrived: usize) -> usize {
+pub fn outcome(answer: Result<(), NotPlayed>, p: Player, arrived: usize) -> usize {
     match answer {
-        Answer::Refused(refusal) => mixed(0, number_of(refusal)),
-        Answer::NotAtStep => mixed(0, 0x2001),
-        Answer::Busy => mixed(0, 0x2002),
-        Answer::Played => mixed(reported(0, report(p)), arrived),
+        Err(NotPlayed::Refused(refusal)) => mixed(0, number_of(refusal)),
+        Err(NotPlayed::NotAtStep) => mixed(0, 0x2001),
+        Err(NotPlayed::Busy) => mixed(0, 0x2002),
+        Ok(()) => mixed(reported(0, report(p)), arrived),
     }
 }
 

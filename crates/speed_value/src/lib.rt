@@ -22,8 +22,8 @@ pub extern "C" fn rattle_by_value(
         held: [0u8; 260],
     };
     let mut sum: usize = 0;
-    for i in 0..bytes.len() {
-        let t = byte_call(d, bytes[i], code, data, reply);
+    for &byte in bytes {
+        let t = byte_call(d, byte, code, data, reply);
         d = t.device;
         let said = t.answer;
         let call = said.call;

@@ -6,11 +6,10 @@ use native.Mathlib.Numerals.{add-one}
 use lib.ListN.{length, take, drop, get_or, drop_of_length-le}
 use lib.Seq.{drop-cons}
 use Rattle.rules.specs.declared.Chip.{Chip}
-use Rattle.rules.specs.declared.Call.{Call}
-use Rattle.rules.specs.declared.Call.TheVariants.{Refused, Answer}
-use Rattle.rules.specs.declared.Note.{Note}
+use Rattle.rules.specs.Answers.{Call, Refused, Answer}
+use Rattle.rules.specs.Notes.{Note}
 use Rattle.rules.specs.declared.Refusal.{Refusal}
-use Rattle.rules.specs.declared.Verdict.TheVariants as v
+use Rattle.rules.specs.Answers as v
 use Rattle.rules.specs.Numbers.{call_number}
 use Rattle.rules.specs.StandIn.{State, Outcome, reply_room, flash_verdict, byte_call}
 use Rattle.standin_engine.specs.View.{call_outcome}

@@ -7,10 +7,10 @@ use lib.ListN.{length, take, drop_of_length-le}
 use borrow.Author.Tests.{eq-eqb, ne_eqb, ltb-false, lt-ltb, le-ltb}
 use Rattle.rules.specs.declared.Chip.{Chip}
 use Rattle.rules.specs.declared.Options.{Options}
-use Rattle.rules.specs.declared.Call.TheVariants.{Refused}
+use Rattle.rules.specs.Answers.{Refused}
 use Rattle.rules.specs.declared.Refusal.{Refusal}
 use Rattle.rules.specs.declared.Refusal.TheVariants.{D3}
-use Rattle.rules.specs.declared.Verdict.TheVariants as v
+use Rattle.rules.specs.Answers as v
 use Rattle.rules.specs.Chip.{over}
 use Rattle.rules.specs.First.{first}
 use Rattle.rules.specs.Frame.{command_start, last_end, frame}

@@ -2,8 +2,8 @@
 use mathlib.Core.Path.{◌≡◌, sym, ap, ◌∙◌}
 use mathlib.Core.List.{List}
 use Prim.Native.Nat.{ℕ}
-use Rattle.rules.specs.declared.Call.{Call}
-use Rattle.rules.specs.declared.Note.{Note}
+use Rattle.rules.specs.Answers.{Call}
+use Rattle.rules.specs.Notes.{Note}
 use Rattle.rules.specs.StandIn.{State, Outcome, Powered}
 use Rattle.standin_engine.specs.View.{call_outcome}
 use Rattle.standin.specs.Feeding.{Feeding, feeding}

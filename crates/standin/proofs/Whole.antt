@@ -10,7 +10,7 @@ use lib.Dec.{leb, eqb}
 use lib.ListN.{length, replicate, length-append, get_or-append}
 use borrow.Author.Tests.{eqb-true, leb-true, ne_eqb}
 use Rattle.rules.specs.declared.Chip.{Chip}
-use Rattle.rules.specs.declared.Call.TheVariants.{Answer}
+use Rattle.rules.specs.Answers.{Answer}
 use Rattle.rules.specs.Chip.{over}
 use Rattle.rules.specs.Frame.{len_of, frame_size, whole}
 use Rattle.rules.specs.Command.{phase_number}

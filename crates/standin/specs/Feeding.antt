@@ -1,9 +1,8 @@
 -- Feeding a slice of bytes: one byte call after the other, each with the rest of the buffer for its answer. Assumes nothing.
 use Rattle.std.specs.Prelude.{ℕ, ◌+◌, ◌*◌, ◌≤◌, ◌≡◌, List, [], ◌∷◌, ◌++◌, length, take, drop}
 use Rattle.rules.specs.declared.Chip.{Chip}
-use Rattle.rules.specs.declared.Call.{Call}
-use Rattle.rules.specs.declared.Call.TheVariants.{Refused, Answer}
-use Rattle.rules.specs.declared.Verdict.TheVariants as verdict
+use Rattle.rules.specs.Answers.{Call, Refused, Answer}
+use Rattle.rules.specs.Answers as verdict
 use Rattle.rules.specs.Chip.{Memory}
 use Rattle.rules.specs.StandIn.{State, reply_room, flash_verdict, byte_call}
 use Rattle.standin_engine.specs.View.{view}

@@ -2,10 +2,9 @@
 use Rattle.std.specs.Prelude.{ℕ, cond, List, [], ◌∷◌, ◌++◌, ltb, eqb, length}
 use Rattle.rules.specs.declared.Chip.{Chip}
 use Rattle.rules.specs.declared.Options.{Options}
-use Rattle.rules.specs.declared.Call.TheVariants.{Refused}
+use Rattle.rules.specs.Answers.{Refused, Verdict}
 use Rattle.rules.specs.declared.Refusal.TheVariants.{D3}
-use Rattle.rules.specs.declared.Verdict.{Verdict}
-use Rattle.rules.specs.declared.Verdict.TheVariants as verdict
+use Rattle.rules.specs.Answers as verdict
 use Rattle.rules.specs.First.{refuse, first_broken, and_then}
 use Rattle.rules.specs.Frame.{command_start, last_end, frame}
 use Rattle.rules.specs.Options.{IDEN}

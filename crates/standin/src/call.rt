@@ -10,11 +10,12 @@ ghost use Rattle.chip_finder.specs.LentFlashes.{memory};
 ghost use Rattle.standin_engine.specs.Stands.{Stands};
 ghost use Rattle.standin.specs.Shows.{shows, answered_as, powered_as};
 
-use rules::{Call, Chip, Options, Phase, Task, Verdict};
+use rules::{Chip, Options, Phase, Refusal, Task};
 use standin_engine::ByteAnswer;
-use standin_state::Core;
+use standin_state::{Core, lent, resting};
 
 // The record between two calls: which chip it is, the small state, and the bytes of the frame in hand.
+// stays: how many bytes are in hand is `core.have`, beside the buffer (the definition `received`, rules/specs/StandIn, is of the two).
 #[derive(Clone, Copy)]
 pub struct Device {
     pub chip: Chip,
@@ -33,7 +34,7 @@ pub struct Answered {
 #[derive(Clone, Copy)]
 pub struct PoweredOn {
     pub device: Device,
-    pub call: Call,
+    pub call: Result<usize, Refusal>,
 }
 
 // A device that has not been powered on.
@@ -41,14 +42,9 @@ pub fn off(chip: Chip) -> Device
     ensures chip_value { result.chip ≡ chip }
     ensures m_value { (m : Memory) → shows result m ≡ rest Silent Idle fresh_options m }
 {
-    let core = standin_state::resting::at_rest(
-        Phase::Silent,
-        Task::Idle,
-        chip_options::read::fresh(),
-    );
     Device {
         chip,
-        core,
+        core: resting::at_rest(Phase::Silent, Task::Idle, chip_options::read::fresh()),
         held: [0u8; 260],
     }
 }
@@ -60,27 +56,23 @@ pub fn power_on(d: Device, o: Options, code: &[u8], data: &[u8]) -> PoweredOn
     ensures call_value { call_number result.call ≡ call_number (power_on d.chip (shows d (memory code.now «data».now)) o (memory code.now «data».now)).call }
     ensures stands { Stands (call_number result.call) d result.device }
 {
-    let chip = d.chip;
-    if let Verdict::Refused(refusal) = standin_state::lent::flash_verdict(
-        chip,
-        code.len(),
-        data.len(),
-    ) {
-        return PoweredOn {
+    match lent::flash_verdict(d.chip, code.len(), data.len()) {
+        Ok(()) => PoweredOn {
+            device: Device {
+                core: resting::powered(o),
+                ..d
+            },
+            call: Ok(0),
+        },
+        Err(refusal) => PoweredOn {
             device: d,
-            call: Call::Refused(refusal),
-        };
-    }
-    let mut e = d;
-    let core = standin_state::resting::powered(o);
-    e.core = core;
-    PoweredOn {
-        device: e,
-        call: Call::Answer(0),
+            call: Err(refusal),
+        },
     }
 }
 
 // The byte call: one received byte. Record and buffers stand where it is refused.
+// stays: its five clauses stand in `frame_call` and `byte_lent` too (public contracts, of which crates above cite clauses by name: text_serve/proofs/serve).
 pub fn byte_call(
     d: Device,
     byte: u8,
@@ -95,14 +87,15 @@ pub fn byte_call(
     ensures stands { Stands (call_number result.answer.call) d result.device }
 {
     // taken apart and put together: a record changed in place would be copied whole, its 260 bytes too, around the engine
-    let chip = d.chip;
-    let c = d.core;
+    // taken apart and put together: a record changed in place would be copied whole, its 260 bytes too, around the engine
     let mut held = d.held;
-    let t = standin_engine::byte_core(chip, c, byte, &mut held, code, data, reply);
-    let core = t.core;
-    let answer = t.answer;
+    let after = standin_engine::byte_core(d.chip, d.core, byte, &mut held, code, data, reply);
     Answered {
-        device: Device { chip, core, held },
-        answer,
+        device: Device {
+            core: after.core,
+            held,
+            ..d
+        },
+        answer: after.answer,
     }
 }

@@ -5,7 +5,7 @@ ghost use Rattle.chip_finder.specs.LentFlashes.{memory};
 ghost use Rattle.standin_engine.specs.View.{view};
 ghost use Rattle.standin.specs.Feeding.{fed_as, fed_into, Roomy};
 
-use rules::{Call, Chip};
+use rules::{Chip, Refusal};
 use standin_engine::Change;
 use standin_state::Core;
 
@@ -13,7 +13,7 @@ use standin_state::Core;
 #[derive(Clone, Copy)]
 pub struct Fed {
     pub core: Core,
-    pub call: Call,
+    pub call: Result<usize, Refusal>,
     pub taken: usize,
 }
 
@@ -36,40 +36,29 @@ pub fn feed(
 {
     let mut core = c;
     let mut w = 0;
-    let mut i = 0;
-    while i < bytes.len() {
-        let changed = standin_engine::byte_change(
-            chip,
-            core,
-            bytes[i],
-            held,
-            code,
-            data,
-            &mut answers[w..],
-        );
-        match changed {
-            Change::Refused(refusal) => {
+    for (i, &byte) in bytes.iter().enumerate() {
+        let room = &mut answers[w..];
+        let change = match standin_engine::byte_change(chip, core, byte, held, code, data, room) {
+            Ok(change) => change,
+            Err(refusal) => {
                 return Fed {
                     core,
-                    call: Call::Refused(refusal),
+                    call: Err(refusal),
                     taken: i,
                 };
             }
-            Change::Held(n) => {
-                core.have = n;
-                i += 1;
-                continue;
-            }
+        };
+        match change {
+            Change::Held(n) => core.have = n,
             Change::Whole(h) => {
                 core = h.core;
                 w = w + h.answered;
             }
         }
-        i += 1;
     }
     Fed {
         core,
-        call: Call::Answer(w),
-        taken: i,
+        call: Ok(w),
+        taken: bytes.len(),
     }
 }

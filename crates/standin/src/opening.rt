@@ -1,6 +1,6 @@
 // The opening: a chip that was powered on is brought to phase Command.
 ghost use Rattle.std.specs.Prelude.{◌≡◌, ◌∷◌, ◌++◌, length};
-ghost use Rattle.rules.specs.declared.Verdict.TheVariants.{Accepted};
+ghost use Rattle.rules.specs.Answers.{Accepted};
 ghost use Rattle.rules.specs.Frame.{frame};
 ghost use Rattle.rules.specs.Numbers.{call_number};
 ghost use Rattle.chip_finder.specs.LentFlashes.{memory};
@@ -10,7 +10,7 @@ ghost use Rattle.standin.specs.Feeding.{fed_as};
 ghost use Rattle.standin.specs.Opening.{speed_bytes, opening_verdict, opened};
 
 use super::feeding;
-use rules::{Call, Chip, Refusal, Verdict};
+use rules::{Chip, Refusal};
 use standin_state::Core;
 
 // The least bytes of the buffer of answers: 16 for each of the 23 bytes with an ID.
@@ -21,8 +21,7 @@ fn ident_body(id: &[u8; 10]) -> [u8; 11]
     ensures { result ≡ 0x9C ∷ id.now }
 {
     let mut body = [frame_build::IDENT; 11];
-    let sent: &[u8] = id;
-    octets::copy(&mut body[1..11], sent);
+    body[1..].copy_from_slice(id);
     body
 }
 
@@ -40,16 +39,14 @@ fn all_bytes(id: &[u8; 10]) -> [u8; 23]
 }
 
 // D1, D2, then D3 by the length of the buffer of answers.
-fn opening_verdict(chip: Chip, code: usize, data: usize, answers: usize) -> Verdict
+fn opening_verdict(chip: Chip, code: usize, data: usize, answers: usize) -> Result<(), Refusal>
     ensures { result ≡ opening_verdict chip code «data» answers }
 {
-    if let Verdict::Refused(refusal) = standin_state::lent::flash_verdict(chip, code, data) {
-        return Verdict::Refused(refusal);
-    }
+    standin_state::lent::flash_verdict(chip, code, data)?;
     if answers < OPENING_ROOM {
-        return Verdict::Refused(Refusal::D3);
+        return Err(Refusal::D3);
     }
-    Verdict::Accepted
+    Ok(())
 }
 
 // The bytes are fed: mode 3Ah, 9Ah with BRT 0 and VDD 21h, and 9Ch with that ID where the chip asks for one. What would be refused on
@@ -69,23 +66,18 @@ pub fn open(
     ensures stands_2 { Stands (call_number result.call) held.old held.new }
     ensures call_value_2 { opening_verdict chip (length code.old) (length «data».old) (length answers.old) ≡ Accepted → (call_number result.call).letter ≡ 0 }
 {
-    if let Verdict::Refused(refusal) = opening_verdict(
-        chip,
-        code.len(),
-        data.len(),
-        answers.len(),
-    ) {
+    if let Err(refusal) = opening_verdict(chip, code.len(), data.len(), answers.len()) {
         return feeding::Fed {
             core: c,
-            call: Call::Refused(refusal),
+            call: Err(refusal),
             taken: 0,
         };
     }
     let bytes = all_bytes(id);
-    let all: &[u8] = &bytes;
-    let o = c.options;
-    if chip_options::read::iden(o) == 0 {
-        return feeding::feed(chip, c, all, held, code, data, answers);
-    }
-    feeding::feed(chip, c, &all[0..8], held, code, data, answers)
+    let sent = if chip_options::read::iden(c.options) == 0 {
+        bytes.len()
+    } else {
+        8
+    };
+    feeding::feed(chip, c, &bytes[..sent], held, code, data, answers)
 }

@@ -13,22 +13,20 @@ use Rattle.rules.specs.declared.Phase.{Phase}
 use Rattle.rules.specs.declared.Phase.TheVariants.{Silent}
 use Rattle.rules.specs.declared.Task.{Task}
 use Rattle.rules.specs.declared.Task.TheVariants.{Idle}
-use Rattle.rules.specs.declared.Note.{Note}
+use Rattle.rules.specs.Notes.{Note}
 use Rattle.rules.specs.declared.Order.{Order}
 use Rattle.rules.specs.declared.Order.TheVariants.{Reset, Verify, Erase, BlankCheck, Program, BaudRate, Identity, SecuritySet, SecurityGet, Release, WindowSet, WindowGet, Checksum}
-use Rattle.rules.specs.declared.Judged.{Judged}
-use Rattle.rules.specs.declared.Judged.TheVariants.{Faulty, Ordered}
+use Rattle.rules.specs.Answers.{Judged, Faulty, Ordered}
 use Rattle.rules.specs.Chip.{Memory, over}
 use Rattle.rules.specs.Options.{IFPR}
 use Rattle.rules.specs.Frame.{data_start, last_end, frame, one, status_byte}
-use Rattle.rules.specs.State.{State, Out, out, noted, rest}
+use Rattle.rules.specs.State.{State, out, noted, rest}
 use Rattle.rules.specs.Command.{ack, ack_options, secured, done, judged}
 use Rattle.rules.specs.StandIn.{on_judged, on_command}
 use Rattle.frame_build.specs.Buffer.{put, put_bytes, put_ack_and}
 use Rattle.frame_build.proofs.Buffers.{count_put, buffer_put, ack_fits, bytes_fit, length_frame}
-use Rattle.standin_state.specs.declared.Core.{Core}
 use Rattle.standin_state.specs.declared.Response.{Response}
-use Rattle.standin_state.specs.View.{Comes, resting}
+use Rattle.standin_state.specs.View.{Comes, resting, response}
 
 -- ---- no answer has more than 16 bytes ----
 
@@ -82,7 +80,7 @@ unfolding put_bytes over
 no_answer b = rw (le-leb 0 (length b) (omega arith))
 
 -- the ACK and a data frame behind it
-pub told_put : (body b : List ℕ) → 1 ≤ length body → length body ≤ 7 → 16 ≤ length b
+pub told_put : (body b : List ℕ) → 1 ≤ length body → length body ≤ 7 → length b ≡ 16
     → put_ack_and body b ≡ put_bytes (ack ++ frame data_start last_end body) b
 told_put body b l h r =
     let n : length (ack ++ frame data_start last_end body) ≡ length body + 9 =
@@ -92,14 +90,11 @@ told_put body b l h r =
 
 -- ---- the device and the buffer after an outcome ----
 
-pub comes : (r : Core) (n : ℕ) (note : Note) (ph : Phase) (t : Task) (o : Options) (m : Memory) (a new old : List ℕ)
-    → r ≡ resting ph t o
+pub comes : (h : Response) (n : ℕ) (told : Note) (ph : Phase) (t : Task) (o : Options) (m : Memory) (a new old : List ℕ)
+    → h ≡ response (resting ph t o) n told
     → put n new ≡ put_bytes a old
-    → Short a → 16 ≤ length old
-    → Comes (record { core = r; answered = n; note = note }) m new (noted note (out (rest ph t o m) a)) old
-comes r n note ph t o m a new old e p h room =
+    → Short a → length old ≡ 16
+    → Comes h m new (noted told (out (rest ph t o m) a)) old
+comes h n told ph t o m a new old e p short room =
     let q = p ∙ bytes_fit a old (omega arith) in
-    (rw (e, count_put _ _ q, buffer_put _ _ q), ap (λ (c : Core). c.have) e)
-
-pub same_out : (h : Response) (m : Memory) (new old : List ℕ) (x y : Out) → x ≡ y → Comes h m new x old → Comes h m new y old
-same_out h m new old x y e c = rw (← e) c
+    (rw (e, count_put _ _ q, buffer_put _ _ q), ap (λ (r : Response). r.core.have) e)

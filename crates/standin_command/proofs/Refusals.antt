@@ -1,28 +1,39 @@
 -- What refuses an order behind its information: what such a fault tells, and which phase it leaves. Assumes nothing.
-use mathlib.Core.Path.{◌≡◌, refl, ap}
+use mathlib.Core.Path.{◌≡◌, refl, ap, subst, ◌∙◌}
 use mathlib.Core.Bool.{Bool, true, false, not, ◌&&◌, ◌||◌}
 use mathlib.Core.List.{List, [], ◌∷◌}
 use Prim.Native.Nat.{ℕ}
 use lib.Dec.{eqb}
 use lib.ListN.{take, drop}
+use Rattle.std.proofs.Common.{Ok, Err, Option, Some, None}
+use Rattle.std.specs.Option.{MatchOption, IsSomeAnd}
+use Rattle.rules.specs.declared.Chip.{Chip}
 use Rattle.rules.specs.declared.Block.{Block}
-use Rattle.rules.specs.declared.Fault.{Fault}
-use Rattle.rules.specs.declared.Fault.TheVariants as fault
+use Rattle.rules.specs.declared.Fault.{Fault as Row}
+use Rattle.rules.specs.Faults.{Fault}
+use Rattle.rules.specs.Faults as fault
 use Rattle.rules.specs.declared.Flash.{Flash}
-use Rattle.rules.specs.declared.Note.{Note}
-use Rattle.rules.specs.declared.Note.TheVariants.{Empty, Bits}
+use Rattle.rules.specs.Notes.{Note, Empty, Bits}
 use Rattle.rules.specs.declared.Options.{Options}
+use Rattle.rules.specs.declared.Order.{Order}
 use Rattle.rules.specs.declared.Order.TheVariants.{Erase, BlankCheck, Identity, Release, WindowSet}
 use Rattle.rules.specs.declared.Phase.{Phase}
+use Rattle.rules.specs.declared.Pages.{Pages}
+use Rattle.rules.specs.declared.Task.{Task}
 use Rattle.rules.specs.declared.Task.TheVariants.{Idle}
 use Rattle.rules.specs.Chip.{Memory, blank, same, blank_memory, bytes_from, ident_size, ident_of}
 use Rattle.rules.specs.First.{rule, first, first_fault}
 use Rattle.rules.specs.Frame.{one, status_byte, note_of}
 use Rattle.rules.specs.Options.{SEPR, BTPR, FSPR, erase_protected, blank_options}
 use Rattle.rules.specs.State.{Out, out, noted, rest}
-use Rattle.rules.specs.Command.{order_checks, used_in}
-use Rattle.rules.specs.StandIn.{silences, phase_after}
+use Rattle.rules.specs.Answers.{Judged, Is, Ordered, Range, Blocks, Invalid}
+use Rattle.rules.specs.Command.{order_checks, over_blocks, pages_awaited, ack_task, used_in, judged_order, done}
+use Rattle.rules.specs.StandIn.{silences, phase_after, on_judged}
+use Rattle.standin_state.specs.declared.Core.{Core}
+use Rattle.standin_state.specs.View.{idle}
 use Rattle.standin_verdict.proofs.Silencing.{phase_stays}
+use Rattle.standin_verdict.proofs.Verdicts.{stopped_by, well_on}
+use Rattle.standin_command.specs.Ordered.{awaited, begun, on_order}
 
 -- a fault answered: by its own note, phase and status byte
 abbrev pub answered_as : Phase → Options → Memory → Fault → Out
@@ -88,3 +99,41 @@ module _ (o : Options) (m : Memory) (f : List ℕ) where
       go : (b : Bool) → v ≡ first_fault (rule fault.Ident b ∷ []) → v ≡ fault.Ident
       go true e = e
       go false e = absurd (n (ap status_byte e))
+
+-- ---- what an order comes to, by its own rows ----
+
+module _ (chip : Chip) (k : Core) (m : Memory) (f : List ℕ) (order : Order) where
+  -- none of them applies
+  pub order_done : Ok tt ≡ first_fault (order_checks k.options m f order) → done chip (idle k m) order ≡ on_order chip k m f (Is order)
+  unfolding on_judged judged_order
+  order_done e = ap (λ (j : Judged). on_judged j chip (idle k m)) (well_on _ _ e (Ordered order) refl)
+
+  -- one of them does
+  module _ (x : Row) (e : Err x ≡ first_fault (order_checks k.options m f order)) where
+    pub order_refused : answered_as k.phase k.options m (Err x) ≡ on_order chip k m f (Is order)
+    unfolding on_judged judged_order
+    order_refused = ap (λ (j : Judged). on_judged j chip (idle k m)) (stopped_by _ _ e (Ordered order) x refl)
+
+    -- and leaves the phase, with no note
+    pub quiet_refused : Quiet (first_fault (order_checks k.options m f order)) → (st : ℕ) → st ≡ status_byte (Err x)
+        → out (rest k.phase Idle k.options m) (one st) ≡ on_order chip k m f (Is order)
+    quiet_refused q st s =
+        let z = quiet_as _ _ e q in
+        refused_kept _ _ m _ _ Empty z.0 s z.1 ∙ order_refused
+
+-- ---- a command that waits for pages ----
+
+module _ (chip : Chip) (k : Core) (m : Memory) (f : List ℕ) (order : Flash → Block → Block → Order) (begins : Pages → Task)
+    (free : (g : Flash) (a b : Block) → ack_task (begins (pages_awaited g a b)) (idle k m) ≡ on_order chip k m f (Is (order g a b))) where
+  by_range : (r : Range) (o : Option Task) → MatchOption (awaited r) (o ≡ None) (λ p. IsSomeAnd o (λ t. t ≡ begins p))
+      → begun o (idle k m) ≡ on_order chip k m f (over_blocks order r)
+  unfolding on_judged judged_order
+  by_range (Blocks g a b) (Some t) e = ap (λ (x : Task). ack_task x (idle k m)) e ∙ free g a b
+  by_range (Blocks g a b) None e = absurd e
+  by_range Invalid o e = rw e refl
+
+  pub range_begun : (r : Range) (w : Option Pages) (o : Option Task) → w ≡ awaited r
+      → MatchOption w (o ≡ None) (λ p. IsSomeAnd o (λ t. t ≡ begins p))
+      → begun o (idle k m) ≡ on_order chip k m f (over_blocks order r)
+  range_begun r w o e is =
+      by_range r o (subst (λ (v : Option Pages). MatchOption v (o ≡ None) (λ p. IsSomeAnd o (λ t. t ≡ begins p))) e is)

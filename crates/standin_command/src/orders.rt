@@ -4,57 +4,46 @@ ghost use Rattle.std.specs.Prelude.{◌≡◌, cond, ◌&&◌, List, [], ◌∷�
 ghost use Rattle.rules.specs.declared.Chip.{Chip};
 ghost use Rattle.rules.specs.declared.Options.{Options};
 ghost use Rattle.rules.specs.declared.Task.TheVariants.{Idle};
-ghost use Rattle.rules.specs.declared.Order.TheVariants.{Verify, Erase, BlankCheck, Program, BaudRate, Identity, Release, WindowSet, Checksum};
-ghost use Rattle.rules.specs.declared.Decoded.TheVariants.{Is, Bad};
-ghost use Rattle.rules.specs.declared.Fault.TheVariants.{Parameter};
+ghost use Rattle.rules.specs.declared.Order.TheVariants.{Erase, BaudRate, Identity, Release, WindowSet, Checksum};
+ghost use Rattle.rules.specs.Answers.{Is, Bad};
+ghost use Rattle.rules.specs.Faults.{Parameter};
 ghost use Rattle.rules.specs.Chip.{Memory, word_bytes, blocks, erase_address, range};
 ghost use Rattle.rules.specs.Frame.{data_start, last_end, frame, one};
 ghost use Rattle.rules.specs.Options.{shownSF1, shownSF2, shownSWS, shownSWE};
 ghost use Rattle.rules.specs.State.{out, rest};
-ghost use Rattle.rules.specs.Command.{over_blocks, at_block, decoded, ack, ack_data, after_speed, secured};
+ghost use Rattle.rules.specs.Command.{sad_of, ead_of, paired, targeted, at_block, decoded, ack, ack_data, after_speed, secured};
 ghost use Rattle.rules.specs.StandIn.{phase_after};
 ghost use Rattle.chip_finder.specs.LentFlashes.{memory};
-ghost use Rattle.standin_state.specs.View.{Comes, Fits};
-ghost use Rattle.standin_command.specs.Ordered.{on_order};
+ghost use Rattle.standin_state.specs.View.{idle, Comes, Fits};
+ghost use Rattle.standin_command.specs.Ordered.{awaited, begun, on_order};
 
 use crate::refuse_with;
 use chip_options::change::security_set;
 use octets::numbers::{address_at, byte_at, low_byte, middle_byte, word_at};
-use rules::{Address, Block, Chip, Flash, Found, Note, Options, Phase, Range, Task};
-use standin_state::resting::at_rest;
+use rules::{Address, Block, Chip, Flash, Options, Pages, Phase, REPLY_ROOM, Task};
 use standin_state::{Core, Response, tasks};
 use standin_verdict::phases::silenced;
 
 // ---- the answers ----
 
 // The ACK.
-fn acknowledge(phase: Phase, task: Task, o: Options, reply: &mut [u8]) -> Response
-    requires { 16 ≤ length reply.old }
+fn acknowledge(phase: Phase, task: Task, o: Options, reply: &mut [u8; REPLY_ROOM]) -> Response
     ensures { (m : Memory) → Comes result m reply.new (out (rest phase task o m) ack) reply.old }
 {
     let n = frame_build::put_one(reply, 0x06);
-    Response {
-        core: at_rest(phase, task, o),
-        answered: n,
-        note: Note::Empty,
-    }
+    Response::resting(phase, task, o, n, None)
 }
 
 // The ACK and a data frame behind it.
-fn tell(phase: Phase, o: Options, body: &[u8], reply: &mut [u8]) -> Response
-    requires { (1 ≤ length body.now) × (length body.now ≤ 7) × (16 ≤ length reply.old) }
+fn tell(phase: Phase, o: Options, body: &[u8], reply: &mut [u8; REPLY_ROOM]) -> Response
+    requires { (1 ≤ length body.now) × (length body.now ≤ 7) }
     ensures { (m : Memory) → Comes result m reply.new (ack_data body.now (rest phase Idle o m)) reply.old }
 {
     let n = frame_build::put_ack_and(reply, body);
-    Response {
-        core: at_rest(phase, Task::Idle, o),
-        answered: n,
-        note: Note::Empty,
-    }
+    Response::resting(phase, Task::Idle, o, n, None)
 }
 
-fn tell_flags(phase: Phase, o: Options, reply: &mut [u8]) -> Response
-    requires { 16 ≤ length reply.old }
+fn tell_flags(phase: Phase, o: Options, reply: &mut [u8; REPLY_ROOM]) -> Response
     ensures { (m : Memory) → Comes result m reply.new (ack_data (shownSF1 o ∷ shownSF2 o ∷ 0x00 ∷ []) (rest phase Idle o m)) reply.old }
 {
     let body = [
@@ -65,8 +54,7 @@ fn tell_flags(phase: Phase, o: Options, reply: &mut [u8]) -> Response
     tell(phase, o, &body, reply)
 }
 
-fn tell_window(chip: Chip, phase: Phase, o: Options, reply: &mut [u8]) -> Response
-    requires { 16 ≤ length reply.old }
+fn tell_window(chip: Chip, phase: Phase, o: Options, reply: &mut [u8; REPLY_ROOM]) -> Response
     ensures { (m : Memory) → Comes result m reply.new (ack_data (word_bytes (shownSWS o) ++ word_bytes (shownSWE chip o)) (rest phase Idle o m)) reply.old }
 {
     let a = chip_options::read::shown_sws(o) as u32;
@@ -75,8 +63,7 @@ fn tell_window(chip: Chip, phase: Phase, o: Options, reply: &mut [u8]) -> Respon
     tell(phase, o, &body, reply)
 }
 
-fn tell_word(phase: Phase, o: Options, word: u16, reply: &mut [u8]) -> Response
-    requires { 16 ≤ length reply.old }
+fn tell_word(phase: Phase, o: Options, word: u16, reply: &mut [u8; REPLY_ROOM]) -> Response
     ensures { (m : Memory) → Comes result m reply.new (ack_data (word_bytes word) (rest phase Idle o m)) reply.old }
 {
     let body = [low_byte(word as u32), middle_byte(word as u32)];
@@ -84,30 +71,20 @@ fn tell_word(phase: Phase, o: Options, word: u16, reply: &mut [u8]) -> Response
 }
 
 // The speed is set: 06h, 20h, 00h in one data frame.
-fn tell_speed(o: Options, reply: &mut [u8]) -> Response
-    requires { 16 ≤ length reply.old }
+fn tell_speed(o: Options, reply: &mut [u8; REPLY_ROOM]) -> Response
     ensures { (m : Memory) → Comes result m reply.new (out (rest (after_speed o) Idle o m) (frame data_start last_end (0x06 ∷ 0x20 ∷ 0x00 ∷ []))) reply.old }
 {
     let body = [0x06u8, 0x20, 0x00];
     let n = frame_build::put_frame(reply, 0x02, 0x03, &body);
-    Response {
-        core: at_rest(tasks::after_speed(o), Task::Idle, o),
-        answered: n,
-        note: Note::Empty,
-    }
+    Response::resting(tasks::after_speed(o), Task::Idle, o, n, None)
 }
 
 // The flags are set: with IFPR 0 the chip is Silent and nothing is answered.
-fn secure(phase: Phase, o: Options, reply: &mut [u8]) -> Response
-    requires { 16 ≤ length reply.old }
+fn secure(phase: Phase, o: Options, reply: &mut [u8; REPLY_ROOM]) -> Response
     ensures { (m : Memory) (old : Options) → Comes result m reply.new (secured o (rest phase Idle old m)) reply.old }
 {
     if chip_options::read::ifpr(o) == 0 {
-        return Response {
-            core: at_rest(Phase::Silent, Task::Idle, o),
-            answered: 0,
-            note: Note::Empty,
-        };
+        return Response::resting(Phase::Silent, Task::Idle, o, 0, None);
     }
     acknowledge(phase, Task::Idle, o, reply)
 }
@@ -115,51 +92,35 @@ fn secure(phase: Phase, o: Options, reply: &mut [u8]) -> Response
 // ---- the commands that can be refused ----
 
 // 05h: the information is not valid.
-fn refuse_information(phase: Phase, o: Options, reply: &mut [u8]) -> Response
-    requires { 16 ≤ length reply.old }
+fn refuse_information(phase: Phase, o: Options, reply: &mut [u8; REPLY_ROOM]) -> Response
     ensures { (m : Memory) → Comes result m reply.new (out (rest (phase_after phase Parameter) Idle o m) (one 0x05)) reply.old }
 {
     let after = silenced(phase);
-    refuse_with(after, o, 0x05, Note::Empty, reply)
+    refuse_with(after, o, 0x05, None, reply)
 }
 
-// Verify: the pages of a valid address pair are awaited.
-fn verify(chip: Chip, c: Core, sad: Address, ead: Address, reply: &mut [u8]) -> Response
-    requires { 16 ≤ length reply.old }
-    ensures { (m : Memory) (f : List ℕ) → Comes result m reply.new (on_order chip c m f (over_blocks Verify (range chip sad ead))) reply.old }
+// The blocks of the address pair that a command names, where that is valid.
+fn blocks_named(chip: Chip, f: &[u8]) -> Option<(Flash, Block, Block)>
+    ensures { result ≡ range chip (sad_of f.now) (ead_of f.now) }
 {
-    let phase = c.phase;
-    let o = c.options;
-    match chip_finder::range(chip, sad, ead) {
-        Range::Blocks(g, a, b) => {
-            acknowledge(
-                phase,
-                Task::Verifying(tasks::pages_awaited(g, a, b)),
-                o,
-                reply,
-            )
-        }
-        Range::Invalid => refuse_information(phase, o, reply),
-    }
+    chip_finder::range(chip, address_at(f, 3), address_at(f, 6))
 }
 
-// Programming: the same.
-fn program(chip: Chip, c: Core, sad: Address, ead: Address, reply: &mut [u8]) -> Response
-    requires { 16 ≤ length reply.old }
-    ensures { (m : Memory) (f : List ℕ) → Comes result m reply.new (on_order chip c m f (over_blocks Program (range chip sad ead))) reply.old }
+// Their pages, none of them come yet.
+fn awaited(chip: Chip, f: &[u8]) -> Option<Pages>
+    ensures { result ≡ awaited (range chip (sad_of f.now) (ead_of f.now)) }
 {
-    let phase = c.phase;
-    let o = c.options;
-    match chip_finder::range(chip, sad, ead) {
-        Range::Blocks(g, a, b) => {
-            acknowledge(
-                phase,
-                Task::Programming(tasks::pages_awaited(g, a, b)),
-                o,
-                reply,
-            )
-        }
-        Range::Invalid => refuse_information(phase, o, reply),
+    let (g, a, b) = blocks_named(chip, f)?;
+    Some(tasks::pages_awaited(g, a, b))
+}
+
+// Verify and Programming: the pages of a valid address pair are awaited.
+fn begin(c: Core, task: Option<Task>, reply: &mut [u8; REPLY_ROOM]) -> Response
+    ensures { (m : Memory) → Comes result m reply.new (begun task (idle c m)) reply.old }
+{
+    match task {
+        Some(task) => acknowledge(c.phase, task, c.options, reply),
+        None => refuse_information(c.phase, c.options, reply),
     }
 }
 
@@ -167,23 +128,20 @@ fn program(chip: Chip, c: Core, sad: Address, ead: Address, reply: &mut [u8]) ->
 fn tell_sum<'a>(
     chip: Chip,
     c: Core,
-    sad: Address,
-    ead: Address,
+    f: &[u8],
     code: &'a [u8],
     data: &'a [u8],
-    reply: &mut [u8],
+    reply: &mut [u8; REPLY_ROOM],
 ) -> Response
     requires { Fits chip code.now «data».now reply.old }
-    ensures { (f : List ℕ) → Comes result (memory code.now «data».now) reply.new (on_order chip c (memory code.now «data».now) f (over_blocks Checksum (range chip sad ead))) reply.old }
+    ensures { Comes result (memory code.now «data».now) reply.new (on_order chip c (memory code.now «data».now) f.now (paired Checksum chip f.now)) reply.old }
 {
-    let phase = c.phase;
-    let o = c.options;
-    match chip_finder::range(chip, sad, ead) {
-        Range::Blocks(g, a, b) => {
+    match blocks_named(chip, f) {
+        Some((g, a, b)) => {
             let sum = octets::checksum(chip_finder::range_part(chip, code, data, g, a, b));
-            tell_word(phase, o, sum, reply)
+            tell_word(c.phase, c.options, sum, reply)
         }
-        Range::Invalid => refuse_information(phase, o, reply),
+        None => refuse_information(c.phase, c.options, reply),
     }
 }
 
@@ -191,32 +149,30 @@ fn tell_sum<'a>(
 fn check_blank<'a>(
     chip: Chip,
     c: Core,
-    sad: Address,
-    ead: Address,
-    tar: u8,
+    f: &[u8],
     code: &'a [u8],
     data: &'a [u8],
-    reply: &mut [u8],
+    reply: &mut [u8; REPLY_ROOM],
 ) -> Response
     requires { Fits chip code.now «data».now reply.old }
-    ensures { (f : List ℕ) → Comes result (memory code.now «data».now) reply.new (on_order chip c (memory code.now «data».now) f (cond (leb tar 1) (over_blocks (λ g a b. BlankCheck g a b tar) (range chip sad ead)) Bad)) reply.old }
+    ensures { Comes result (memory code.now «data».now) reply.new (on_order chip c (memory code.now «data».now) f.now (targeted chip f.now)) reply.old }
 {
-    let phase = c.phase;
-    let o = c.options;
+    let tar = byte_at(f, 9);
     if 1 < tar {
-        return refuse_information(phase, o, reply);
+        return refuse_information(c.phase, c.options, reply);
     }
-    match chip_finder::range(chip, sad, ead) {
-        Range::Blocks(g, a, b) => {
-            let v = standin_verdict::blank_fault(chip, o, code, data, g, a, b, tar);
-            let status = frame_judge::status_byte(v);
-            if status != 0x06 {
+    match blocks_named(chip, f) {
+        Some((g, a, b)) => {
+            if let Err(fault) = standin_verdict::blank_fault(
+                chip, c.options, code, data, g, a, b, tar,
+            ) {
+                let v = Err(fault);
                 let note = frame_judge::note_of(v);
-                return refuse_with(phase, o, status, note, reply);
+                return refuse_with(c.phase, c.options, frame_judge::status_byte(v), note, reply);
             }
-            acknowledge(phase, Task::Idle, o, reply)
+            acknowledge(c.phase, Task::Idle, c.options, reply)
         }
-        Range::Invalid => refuse_information(phase, o, reply),
+        None => refuse_information(c.phase, c.options, reply),
     }
 }
 
@@ -228,20 +184,22 @@ fn erase_block(
     b: Block,
     code: &mut [u8],
     data: &mut [u8],
-    reply: &mut [u8],
+    reply: &mut [u8; REPLY_ROOM],
 ) -> Response
     requires { (Fits chip code.old «data».old reply.old) × (b.0 < blocks chip g) }
     ensures { (f : List ℕ) → Comes result (memory code.new «data».new) reply.new (on_order chip c (memory code.old «data».old) f (Is (Erase g b))) reply.old }
 {
-    let phase = c.phase;
-    let o = c.options;
-    let v = standin_verdict::erase_fault(o, g, b);
-    let status = frame_judge::status_byte(v);
-    if status != 0x06 {
-        return refuse_with(phase, o, status, Note::Empty, reply);
+    if let Err(fault) = standin_verdict::erase_fault(c.options, g, b) {
+        return refuse_with(
+            c.phase,
+            c.options,
+            frame_judge::status_byte(Err(fault)),
+            None,
+            reply,
+        );
     }
     chip_flash::erase::erase_block(chip, code, data, g, b);
-    acknowledge(phase, Task::Idle, o, reply)
+    acknowledge(c.phase, Task::Idle, c.options, reply)
 }
 
 // Block Erase of the block that begins at an address.
@@ -251,81 +209,76 @@ fn erase(
     sad: Address,
     code: &mut [u8],
     data: &mut [u8],
-    reply: &mut [u8],
+    reply: &mut [u8; REPLY_ROOM],
 ) -> Response
     requires { Fits chip code.old «data».old reply.old }
     ensures { (f : List ℕ) → Comes result (memory code.new «data».new) reply.new (on_order chip c (memory code.old «data».old) f (at_block (erase_address chip sad))) reply.old }
 {
     match chip_finder::erase_address(chip, sad) {
-        Found::In(g, b) => erase_block(chip, c, g, b, code, data, reply),
-        Found::Nowhere => {
-            let phase = c.phase;
-            let o = c.options;
-            refuse_information(phase, o, reply)
-        }
+        Some((g, b)) => erase_block(chip, c, g, b, code, data, reply),
+        None => refuse_information(c.phase, c.options, reply),
     }
 }
 
 // Baud Rate Set.
-fn set_speed(c: Core, brt: u8, vdd: u8, reply: &mut [u8]) -> Response
-    requires { 16 ≤ length reply.old }
+fn set_speed(c: Core, brt: u8, vdd: u8, reply: &mut [u8; REPLY_ROOM]) -> Response
     ensures { (chip : Chip) (m : Memory) (f : List ℕ) → Comes result m reply.new (on_order chip c m f (cond (leb brt 3 && leb 0x10 vdd && leb vdd 0x37) (Is BaudRate) Bad)) reply.old }
 {
-    let phase = c.phase;
-    let o = c.options;
     if standin_verdict::rated(brt, vdd) {
-        return tell_speed(o, reply);
+        return tell_speed(c.options, reply);
     }
-    refuse_information(phase, o, reply)
+    refuse_information(c.phase, c.options, reply)
 }
 
 // ID: the ten bytes that stand in the frame.
-fn identify(c: Core, f: &[u8], code: &[u8], reply: &mut [u8]) -> Response
-    requires { 16 ≤ length reply.old }
+fn identify(c: Core, f: &[u8], code: &[u8], reply: &mut [u8; REPLY_ROOM]) -> Response
     ensures { (chip : Chip) (d : List ℕ) → Comes result (memory code.now d) reply.new (on_order chip c (memory code.now d) f.now (Is Identity)) reply.old }
 {
-    let phase = c.phase;
-    let o = c.options;
-    let v = standin_verdict::ident_fault(f, code);
-    let status = frame_judge::status_byte(v);
-    if status != 0x06 {
-        let after = silenced(phase);
-        return refuse_with(after, o, status, Note::Empty, reply);
+    if let Err(fault) = standin_verdict::ident_fault(f, code) {
+        let status = frame_judge::status_byte(Err(fault));
+        return refuse_with(silenced(c.phase), c.options, status, None, reply);
     }
-    acknowledge(Phase::Command, Task::Idle, o, reply)
+    acknowledge(Phase::Command, Task::Idle, c.options, reply)
 }
 
 // Security Release.
-fn release(c: Core, code: &[u8], data: &[u8], reply: &mut [u8]) -> Response
-    requires { 16 ≤ length reply.old }
+fn release(c: Core, code: &[u8], data: &[u8], reply: &mut [u8; REPLY_ROOM]) -> Response
     ensures { (chip : Chip) (f : List ℕ) → Comes result (memory code.now «data».now) reply.new (on_order chip c (memory code.now «data».now) f (Is Release)) reply.old }
 {
-    let phase = c.phase;
-    let o = c.options;
-    let v = standin_verdict::release_fault(o, code, data);
-    let status = frame_judge::status_byte(v);
-    if status != 0x06 {
-        return refuse_with(phase, o, status, Note::Empty, reply);
+    if let Err(fault) = standin_verdict::release_fault(c.options, code, data) {
+        return refuse_with(
+            c.phase,
+            c.options,
+            frame_judge::status_byte(Err(fault)),
+            None,
+            reply,
+        );
     }
-    acknowledge(phase, Task::Idle, chip_options::change::release(o), reply)
+    acknowledge(
+        c.phase,
+        Task::Idle,
+        chip_options::change::release(c.options),
+        reply,
+    )
 }
 
 // Window Set.
-fn set_window(c: Core, sws: u16, swe: u16, reply: &mut [u8]) -> Response
-    requires { 16 ≤ length reply.old }
+fn set_window(c: Core, sws: u16, swe: u16, reply: &mut [u8; REPLY_ROOM]) -> Response
     ensures { (chip : Chip) (m : Memory) (f : List ℕ) → Comes result m reply.new (on_order chip c m f (Is (WindowSet sws swe))) reply.old }
 {
-    let phase = c.phase;
-    let o = c.options;
-    let v = standin_verdict::window_fault(o);
-    let status = frame_judge::status_byte(v);
-    if status != 0x06 {
-        return refuse_with(phase, o, status, Note::Empty, reply);
+    if let Err(fault) = standin_verdict::window_fault(c.options) {
+        return refuse_with(
+            c.phase,
+            c.options,
+            frame_judge::status_byte(Err(fault)),
+            None,
+            reply,
+        );
     }
     acknowledge(
-        phase,
+        c.phase,
         Task::Idle,
-        chip_options::change::window_set(o, sws, swe),
+        chip_options::change::window_set(c.options, sws, swe),
         reply,
     )
 }
@@ -333,51 +286,37 @@ fn set_window(c: Core, sws: u16, swe: u16, reply: &mut [u8]) -> Response
 // ---- all commands ----
 
 // The command whose code came, refused or done.
+// stays: (speed, docs/SPEED.md, "A short command") a match over the codes: an order in between, decoded and taken apart again, took more a byte.
 pub(crate) fn obey(
     chip: Chip,
     c: Core,
     f: &[u8],
     code: &mut [u8],
     data: &mut [u8],
-    reply: &mut [u8],
+    reply: &mut [u8; REPLY_ROOM],
 ) -> Response
     requires { Fits chip code.old «data».old reply.old }
     ensures { Comes result (memory code.new «data».new) reply.new (on_order chip c (memory code.old «data».old) f.now (decoded chip f.now)) reply.old }
 {
-    let phase = c.phase;
-    let o = c.options;
     let command = byte_at(f, 2);
     match command {
-        0x00 => acknowledge(phase, Task::Idle, o, reply),
-        0x13 => verify(chip, c, address_at(f, 3), address_at(f, 6), reply),
+        0x00 => acknowledge(c.phase, Task::Idle, c.options, reply),
+        0x13 => begin(c, awaited(chip, f).map(Task::Verifying), reply),
         0x22 => erase(chip, c, address_at(f, 3), code, data, reply),
-        0x32 => check_blank(
-            chip,
-            c,
-            address_at(f, 3),
-            address_at(f, 6),
-            byte_at(f, 9),
-            &*code,
-            &*data,
-            reply,
-        ),
-        0x40 => program(chip, c, address_at(f, 3), address_at(f, 6), reply),
+        0x32 => check_blank(chip, c, f, &*code, &*data, reply),
+        0x40 => begin(c, awaited(chip, f).map(Task::Programming), reply),
         0x9A => set_speed(c, byte_at(f, 3), byte_at(f, 4), reply),
         0x9C => identify(c, f, &*code, reply),
-        0xA0 => secure(phase, security_set(o, byte_at(f, 3), byte_at(f, 4)), reply),
-        0xA1 => tell_flags(phase, o, reply),
-        0xA2 => release(c, &*code, &*data, reply),
-        0xAC => set_window(c, word_at(f, 3), word_at(f, 5), reply),
-        0xAD => tell_window(chip, phase, o, reply),
-        0xB0 => tell_sum(
-            chip,
-            c,
-            address_at(f, 3),
-            address_at(f, 6),
-            &*code,
-            &*data,
+        0xA0 => secure(
+            c.phase,
+            security_set(c.options, byte_at(f, 3), byte_at(f, 4)),
             reply,
         ),
-        _ => refuse_information(phase, o, reply),
+        0xA1 => tell_flags(c.phase, c.options, reply),
+        0xA2 => release(c, &*code, &*data, reply),
+        0xAC => set_window(c, word_at(f, 3), word_at(f, 5), reply),
+        0xAD => tell_window(chip, c.phase, c.options, reply),
+        0xB0 => tell_sum(chip, c, f, &*code, &*data, reply),
+        _ => refuse_information(c.phase, c.options, reply),
     }
 }

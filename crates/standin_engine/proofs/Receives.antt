@@ -1,7 +1,8 @@
 -- One byte taken, in the terms of a count and a frame buffer. Assumes nothing.
 use mathlib.Core.Path.{◌≡◌, refl, sym, ap, ◌∙◌}
-use mathlib.Core.Bool.{Bool, true, false, cond, ◌||◌, false≢true}
+use mathlib.Core.Bool.{Bool, true, false, cond, ◌||◌}
 use mathlib.Core.List.{List, [], ◌∷◌, ◌++◌}
+use mathlib.Core.Logic.{◌⊎◌, inl, inr}
 use Prim.Native.Nat.{ℕ, ◌+◌, ◌<◌, ◌≤◌}
 use native.Mathlib.Omega.{arith}
 use native.Mathlib.Numerals.{add-one}
@@ -12,11 +13,11 @@ use borrow.Author.Tests.{eqb-true, eqb-false, ltb-true, lt-ltb, le-ltb, le-leb, 
 use Rattle.rules.specs.declared.Chip.{Chip}
 use Rattle.rules.specs.declared.Phase.{Phase}
 use Rattle.rules.specs.declared.Phase.TheVariants.{Mode, Speed, Ident, Command, Silent}
-use Rattle.rules.specs.declared.Call.TheVariants.{Refused, Answer}
-use Rattle.rules.specs.declared.Note.TheVariants.{Empty}
+use Rattle.rules.specs.Answers.{Refused, Answer}
+use Rattle.rules.specs.Notes.{Empty}
 use Rattle.rules.specs.declared.Refusal.{Refusal}
 use Rattle.rules.specs.declared.Task.TheVariants.{Idle}
-use Rattle.rules.specs.declared.Verdict.TheVariants as v
+use Rattle.rules.specs.Answers as v
 use Rattle.rules.specs.Chip.{over}
 use Rattle.rules.specs.Frame.{frame_size, len_of, whole}
 use Rattle.rules.specs.Command.{phase_number}
@@ -128,47 +129,28 @@ still_short xs n b k h e z d = go (eqb n 1) refl
 
 -- ---- the phases, and the refusals ----
 
-pub is_silent_lem : (p : Phase) → phase_number p ≡ 4 → p ≡ Silent
-is_silent_lem Mode e = absurd (omega arith)
-is_silent_lem Speed e = absurd (omega arith)
-is_silent_lem Ident e = absurd (omega arith)
-is_silent_lem Command e = absurd (omega arith)
-is_silent_lem Silent e = refl
-
-pub is_mode : (p : Phase) → phase_number p ≡ 0 → p ≡ Mode
-is_mode Mode e = refl
-is_mode Speed e = absurd (omega arith)
-is_mode Ident e = absurd (omega arith)
-is_mode Command e = absurd (omega arith)
-is_mode Silent e = absurd (omega arith)
-
--- a phase that takes frames is neither; one that takes none and is not silent waits for a mode byte
+-- a phase that takes frames is neither silent nor the one that waits for a mode byte
 pub takes_frames : (p : Phase) → listening p ≡ true → (phase_number p ≡ 4 → ⊥) × (phase_number p ≡ 0 → ⊥)
-takes_frames Mode e = absurd (false≢true e)
-takes_frames Speed e = (λ z. omega arith, λ z. omega arith)
-takes_frames Ident e = (λ z. omega arith, λ z. omega arith)
-takes_frames Command e = (λ z. omega arith, λ z. omega arith)
-takes_frames Silent e = absurd (false≢true e)
-
-pub takes_none : (p : Phase) → listening p ≡ false → (phase_number p ≡ 4 → ⊥) → phase_number p ≡ 0
-takes_none Mode e n = refl
-takes_none Speed e n = absurd (false≢true (sym e))
-takes_none Ident e n = absurd (false≢true (sym e))
-takes_none Command e n = absurd (false≢true (sym e))
-takes_none Silent e n = absurd (n refl)
+takes_frames p e = grind arith
 
 module _ (chip : Chip) (s : State) (b : ℕ) where
   by_phase : (p : Phase) → s.phase ≡ p → takes p chip s b ≡ step chip s b
   unfolding step
   by_phase p e = ap (λ (q : Phase). takes q chip s b) (sym e)
 
-  pub silent_step : phase_number s.phase ≡ 4 → out s [] ≡ step chip s b
+  pub silent_step : s.phase ≡ Silent → out s [] ≡ step chip s b
   unfolding takes
-  silent_step e = by_phase Silent (is_silent_lem s.phase e)
+  silent_step e = by_phase Silent e
 
-  pub mode_step : phase_number s.phase ≡ 0 → out (rest (after_mode b) Idle s.options s.memory) [] ≡ step chip s b
+  pub mode_step : s.phase ≡ Mode → out (rest (after_mode b) Idle s.options s.memory) [] ≡ step chip s b
   unfolding takes
-  mode_step e = by_phase Mode (is_mode s.phase e)
+  mode_step e = by_phase Mode e
+
+  pub listening_step : (s.phase ≡ Speed) ⊎ (s.phase ≡ Ident) ⊎ (s.phase ≡ Command) → receive chip s s.got b ≡ step chip s b
+  unfolding takes
+  listening_step (inl e) = by_phase Speed e
+  listening_step (inr (inl e)) = by_phase Ident e
+  listening_step (inr (inr e)) = by_phase Command e
 
   frame_step_at : (p : Phase) → s.phase ≡ p → (phase_number p ≡ 4 → ⊥) → (phase_number p ≡ 0 → ⊥) → receive chip s s.got b ≡ step chip s b
   unfolding takes

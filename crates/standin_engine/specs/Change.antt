@@ -1,29 +1,25 @@
 -- What a byte changes, as a record and an answer. Assumes nothing.
-use Rattle.std.specs.Prelude.{ℕ, ◌≡◌, List}
+use Rattle.std.specs.Prelude.{ℕ, ◌≡◌, List, Option, Some, None}
 use Rattle.rules.specs.declared.Chip.{Chip}
-use Rattle.rules.specs.declared.Call.{Call}
-use Rattle.rules.specs.declared.Call.TheVariants.{Refused, Answer}
-use Rattle.rules.specs.declared.Note.{Note}
-use Rattle.rules.specs.declared.Note.TheVariants.{Empty}
+use Rattle.rules.specs.Answers.{Call, Refused, Answer}
+use Rattle.rules.specs.Notes.{Note, Empty}
 use Rattle.rules.specs.Chip.{Memory}
 use Rattle.rules.specs.StandIn.{Outcome, answered, receive, received, on_frame}
 use Rattle.frame_build.specs.Buffer.{frame_in}
 use Rattle.standin_state.specs.declared.Core.{Core}
 use Rattle.standin_state.specs.View.{idle}
-use Rattle.standin_engine.specs.declared.Taken.{Taken}
-use Rattle.standin_engine.specs.declared.Taken.TheVariants as took
-use Rattle.standin_engine.specs.declared.Change.{Change}
-use Rattle.standin_engine.specs.declared.Change.TheVariants as change
+use Rattle.standin_engine.specs.Answers.{Change}
+use Rattle.standin_engine.specs.Answers as change
 use Rattle.standin_engine.specs.declared.CoreAfter.{CoreAfter}
 use Rattle.standin_engine.specs.View.{view, call_outcome, holds}
 
 -- what a byte in a phase that takes frames comes to, whatever flashes and reply buffer are lent: nothing is answered, or the frame that the buffer
 -- then holds is taken
-abbrev pub Takes : Chip → Core → ℕ → List ℕ → List ℕ → Taken → Type 0
-Takes chip c byte old new (took.Held n) =
+abbrev pub Takes : Chip → Core → ℕ → List ℕ → List ℕ → Option ℕ → Type 0
+Takes chip c byte old new (Some n) =
     (m : Memory) (reply : List ℕ)
     → call_outcome (view (holds c n) new m) (Answer 0) Empty reply ≡ answered (receive chip (view c old m) (received c.have old) byte) reply
-Takes chip c byte old new took.Whole =
+Takes chip c byte old new None =
     (m : Memory) → on_frame chip (idle c m) (frame_in new) ≡ receive chip (view c old m) (received c.have old) byte
 
 -- the record after the byte

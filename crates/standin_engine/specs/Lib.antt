@@ -1,3 +1,4 @@
+pub mod Answers
 pub mod View
 pub mod Change
 pub mod Stands

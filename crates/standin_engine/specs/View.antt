@@ -1,7 +1,7 @@
 -- What a device's record shows: the state that the definitions speak of. Assumes nothing.
 use Rattle.std.specs.Prelude.{ℕ, cond, ◌||◌, List, ltb}
-use Rattle.rules.specs.declared.Call.{Call}
-use Rattle.rules.specs.declared.Note.{Note}
+use Rattle.rules.specs.Answers.{Call}
+use Rattle.rules.specs.Notes.{Note}
 use Rattle.rules.specs.Chip.{Memory}
 use Rattle.rules.specs.Frame.{frame_size, len_of}
 use Rattle.rules.specs.StandIn.{State, Outcome, received}

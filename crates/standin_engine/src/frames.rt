@@ -18,10 +18,7 @@ pub fn on_frame(
 ) -> Response
     ensures { Comes result (memory code.new «data».new) reply.new (handed (lent_verdict chip (length code.old) (length «data».old) (length reply.old)) (idle c (memory code.old «data».old)) (on_frame chip (idle c (memory code.old «data».old)) (frame_in frame.now))) reply.old }
 {
-    let phase = c.phase;
-    let task = c.task;
-    let t = tasks::task_now(chip, phase, task);
-    match t {
+    match tasks::task_now(chip, c.phase, c.task) {
         Task::Idle => standin_command::on_command(chip, c, frame, code, data, reply),
         Task::Programming(p) => standin_pages::on_page(chip, c, p, frame, code, data, reply),
         Task::Verifying(p) => standin_pages::on_compare(chip, c, p, frame, &*code, &*data, reply),

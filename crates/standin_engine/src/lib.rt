@@ -2,8 +2,8 @@
 #![tactic(auto)]
 
 ghost use Rattle.std.specs.Prelude.{◌≡◌, ℕ, ◌+◌, ◌<◌, ◌≤◌, List, [], length};
-ghost use Rattle.rules.specs.declared.Call.TheVariants.{Answer};
-ghost use Rattle.rules.specs.declared.Note.TheVariants.{Empty};
+ghost use Rattle.rules.specs.Answers.{Answer};
+ghost use Rattle.rules.specs.Notes.{Empty};
 ghost use Rattle.rules.specs.Chip.{Memory};
 ghost use Rattle.rules.specs.Frame.{frame_size, len_of};
 ghost use Rattle.rules.specs.Numbers.{call_number};
@@ -13,16 +13,15 @@ ghost use Rattle.standin_engine.specs.View.{view, call_outcome, held_count, hold
 ghost use Rattle.standin_engine.specs.Change.{Takes, call_of, change_outcome, core_outcome};
 ghost use Rattle.standin_engine.specs.Stands.{Stands};
 
-use rules::{Call, Chip, Note, Phase, Refusal, Task, Verdict};
-use standin_state::{Core, Response};
+use rules::{Chip, Note, Phase, Refusal, Task};
+use standin_state::{Core, Response, lent, resting, tasks};
 
 pub mod frames;
 
-// What a byte changes: nothing where it is refused; else how many bytes of a frame are held, with nothing answered or noted, or the device by a
-// whole frame or a mode byte. So a byte that only goes on with a frame does not hand the device about.
+// What a byte that is not refused changes: how many bytes of a frame are held, with nothing answered or noted, or the device by a whole frame or a mode
+// byte. So a byte that only goes on with a frame does not hand the device about.
 #[derive(Clone, Copy)]
 pub enum Change {
-    Refused(Refusal),
     Held(usize),
     Whole(Response),
 }
@@ -30,27 +29,45 @@ pub enum Change {
 // What a byte call answers: refused, or so many bytes; and the note.
 #[derive(Clone, Copy)]
 pub struct ByteAnswer {
-    pub call: Call,
-    pub note: Note,
+    pub call: Result<usize, Refusal>,
+    pub note: Option<Note>,
 }
 
+// The small state after a call, and what the call answered.
 #[derive(Clone, Copy)]
 pub struct CoreAfter {
     pub core: Core,
     pub answer: ByteAnswer,
 }
 
+impl CoreAfter {
+    // What a call came to, by what it changed in the record given: refused, the record stands.
+    pub fn by_change(c: Core, changed: Result<Change, Refusal>) -> CoreAfter
+        ensures outcome { (frame : List ℕ) (m : Memory) (reply : List ℕ) → core_outcome result frame m reply ≡ change_outcome c changed frame m reply }
+        ensures call_value { result.answer.call ≡ call_of changed }
+        ensures stands { Stands (call_number (call_of changed)) c result.core }
+    {
+        let (core, call, note) = match changed {
+            Ok(Change::Held(n)) => (Core { have: n, ..c }, Ok(0), None),
+            Ok(Change::Whole(h)) => (h.core, Ok(h.answered), h.note),
+            Err(refusal) => (c, Err(refusal), None),
+        };
+        CoreAfter {
+            core,
+            answer: ByteAnswer { call, note },
+        }
+    }
+}
+
 // How many bytes of a frame the buffer holds: a count that no buffer holds, or at or past its LEN's end, is none.
 pub fn held_count(have: usize, held: &[u8; 260]) -> usize
     ensures { (result ≡ held_count have held.now) × (result < 260) }
 {
-    if have < 2 {
-        return have;
+    if have < 2 || have < frame_judge::frame_size(held[1]) {
+        have
+    } else {
+        0
     }
-    if have < frame_judge::frame_size(held[1]) {
-        return have;
-    }
-    0
 }
 
 // Where the last byte of the frame in hand stands, once its LEN has come.
@@ -62,75 +79,59 @@ fn last_place(held: &[u8; 260]) -> usize
 
 // Nothing is held: the byte begins a frame if it is the start byte awaited, else it is skipped. How many bytes are then held.
 fn begin(chip: Chip, c: Core, byte: u8, held: &mut [u8; 260]) -> usize
-    requires { (length held.old ≡ 260) × (received c.have held.old ≡ []) }
+    requires { received c.have held.old ≡ [] }
     ensures { (m : Memory) (reply : List ℕ) → call_outcome (view (holds c result) held.new m) (Answer 0) Empty reply ≡ answered (receive chip (view c held.old m) [] byte) reply }
 {
-    let phase = c.phase;
-    let task = c.task;
-    if byte != standin_state::tasks::start_of(standin_state::tasks::task_now(chip, phase, task)) {
+    if byte != tasks::start_of(tasks::task_now(chip, c.phase, c.task)) {
         return 0;
     }
     held[0] = byte;
     1
 }
 
-// What a byte in a phase that takes frames comes to: so many bytes of a frame are held, or the frame is whole. It has nothing of the device in it,
-// so a byte that only goes on with a frame is a number also where the engine is not put into its caller.
-#[derive(Clone, Copy)]
-pub enum Taken {
-    Held(usize),
-    Whole,
-}
-
 // A byte past the LEN of a frame: it goes on with the frame, which is the way of most bytes and so the first, or completes it. A count past the
-// frame's end holds nothing.
-fn go_on(chip: Chip, c: Core, byte: u8, held: &mut [u8; 260]) -> Taken
-    requires { (length held.old ≡ 260) × (2 ≤ c.have) }
+// frame's end holds nothing. Answered is how many bytes of a frame are then held, or none where the frame is whole: nothing of the device, so a byte
+// that only goes on with a frame is a number also where the engine is not put into its caller.
+fn go_on(chip: Chip, c: Core, byte: u8, held: &mut [u8; 260]) -> Option<usize>
+    requires { 2 ≤ c.have }
     ensures { Takes chip c byte held.old held.new result }
 {
     let have = c.have;
     let last = last_place(&*held);
     if have < last {
         held[have] = byte;
-        return Taken::Held(have + 1);
-    }
-    if have == last {
+        Some(have + 1)
+    } else if have == last {
         held[have] = byte;
-        return Taken::Whole;
+        None
+    } else {
+        Some(begin(chip, c, byte, held))
     }
-    Taken::Held(begin(chip, c, byte, held))
 }
 
-// A byte in a phase that takes frames: it begins one, goes on with one, or completes one. With two bytes no frame is whole.
-fn receive(chip: Chip, c: Core, byte: u8, held: &mut [u8; 260]) -> Taken
-    requires { length held.old ≡ 260 }
+// A byte in a phase that takes frames: it goes on with one or completes one, or begins one. With two bytes no frame is whole.
+fn receive(chip: Chip, c: Core, byte: u8, held: &mut [u8; 260]) -> Option<usize>
     ensures { Takes chip c byte held.old held.new result }
 {
-    let have = c.have;
-    if 2 <= have {
-        return go_on(chip, c, byte, held);
+    match c.have {
+        2.. => go_on(chip, c, byte, held),
+        1 => {
+            held[1] = byte;
+            Some(2)
+        }
+        0 => Some(begin(chip, c, byte, held)),
     }
-    if have == 1 {
-        held[1] = byte;
-        return Taken::Held(2);
-    }
-    Taken::Held(begin(chip, c, byte, held))
 }
 
 // The phases that take frames: not the one that waits for a mode byte, nor silence.
 pub fn listens(phase: Phase) -> bool
     ensures { result ≡ listening phase }
 {
-    match phase {
-        Phase::Mode => false,
-        Phase::Speed => true,
-        Phase::Ident => true,
-        Phase::Command => true,
-        Phase::Silent => false,
-    }
+    matches!(phase, Phase::Speed | Phase::Ident | Phase::Command)
 }
 
 // The byte call, answered by what it changes: the refusals first, then the byte by its phase.
+// stays: both flashes and the reply buffer are parameters one by one, here and in the calls above (public signatures; C lends each by itself: `rattle_called`).
 pub fn byte_change(
     chip: Chip,
     c: Core,
@@ -139,42 +140,23 @@ pub fn byte_change(
     code: &mut [u8],
     data: &mut [u8],
     reply: &mut [u8],
-) -> Change
+) -> Result<Change, Refusal>
     ensures reply_after { change_outcome c result held.new (memory code.new «data».new) reply.new ≡ byte_call chip (view c held.old (memory code.old «data».old)) reply.old byte }
     ensures stands { Stands (call_number (call_of result)) held.old held.new }
 {
-    // asked for its length, the buffer is known to have 260 bytes
-    let whole: &[u8] = &*held;
-    let _room = whole.len();
-    if let Verdict::Refused(refusal) = standin_state::lent::lent_verdict(
-        chip,
-        code.len(),
-        data.len(),
-        reply.len(),
-    ) {
-        return Change::Refused(refusal);
-    }
-    let phase = c.phase;
-    if !listens(phase) {
-        if frame_judge::phase_number(phase) == 4 {
-            return Change::Held(c.have);
-        }
-        let o = c.options;
-        let core = standin_state::resting::at_rest(
-            standin_state::tasks::after_mode(byte),
-            Task::Idle,
-            o,
-        );
-        return Change::Whole(Response {
-            core,
+    lent::lent_verdict(chip, code.len(), data.len(), reply.len())?;
+    match c.phase {
+        Phase::Silent => Ok(Change::Held(c.have)),
+        Phase::Mode => Ok(Change::Whole(Response {
+            core: resting::at_rest(tasks::after_mode(byte), Task::Idle, c.options),
             answered: 0,
-            note: Note::Empty,
-        });
+            note: None,
+        })),
+        Phase::Speed | Phase::Ident | Phase::Command => match receive(chip, c, byte, held) {
+            Some(n) => Ok(Change::Held(n)),
+            None => Ok(Change::Whole(frames::on_frame(chip, c, &*held, code, data, reply))),
+        },
     }
-    if let Taken::Held(n) = receive(chip, c, byte, held) {
-        return Change::Held(n);
-    }
-    Change::Whole(frames::on_frame(chip, c, &*held, code, data, reply))
 }
 
 // The byte call, answered by the whole small state.
@@ -191,36 +173,5 @@ pub fn byte_core(
     ensures stands { Stands (call_number result.answer.call) c result.core }
     ensures stands_2 { Stands (call_number result.answer.call) held.old held.new }
 {
-    let changed = byte_change(chip, c, byte, held, code, data, reply);
-    match changed {
-        Change::Refused(refusal) => CoreAfter {
-            core: c,
-            answer: ByteAnswer {
-                call: Call::Refused(refusal),
-                note: Note::Empty,
-            },
-        },
-        Change::Held(n) => {
-            let mut e = c;
-            e.have = n;
-            CoreAfter {
-                core: e,
-                answer: ByteAnswer {
-                    call: Call::Answer(0),
-                    note: Note::Empty,
-                },
-            }
-        }
-        Change::Whole(h) => {
-            let core = h.core;
-            let note = h.note;
-            CoreAfter {
-                core,
-                answer: ByteAnswer {
-                    call: Call::Answer(h.answered),
-                    note,
-                },
-            }
-        }
-    }
+    CoreAfter::by_change(c, byte_change(chip, c, byte, held, code, data, reply))
 }

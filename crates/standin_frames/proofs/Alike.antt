@@ -9,12 +9,10 @@ use lib.ListN.{length}
 use borrow.Author.Tests.{eqb-true, eq-eqb}
 use Rattle.rules.specs.declared.Chip.{Chip}
 use Rattle.rules.specs.declared.Flash.TheVariants.{Code, Data}
-use Rattle.rules.specs.declared.Call.{Call}
-use Rattle.rules.specs.declared.Call.TheVariants.{Refused, Answer}
-use Rattle.rules.specs.declared.Note.TheVariants.{Empty}
+use Rattle.rules.specs.Answers.{Call, Refused, Answer, Verdict}
+use Rattle.rules.specs.Notes.{Empty}
 use Rattle.rules.specs.declared.Refusal.TheVariants.{D0, D1, D2, D3, E1}
-use Rattle.rules.specs.declared.Verdict.{Verdict}
-use Rattle.rules.specs.declared.Verdict.TheVariants as v
+use Rattle.rules.specs.Answers as v
 use Rattle.rules.specs.First.{first, and_then}
 use Rattle.rules.specs.Chip.{byte_at, known, flash_size}
 use Rattle.rules.specs.Frame.{whole}

@@ -5,25 +5,24 @@ use mathlib.Core.List.{List, ◌++◌}
 use Prim.Native.Nat.{ℕ, ◌<◌, ◌≤◌}
 use native.Mathlib.Omega.{arith}
 use lib.Dec.{leb, eqb}
-use lib.ListN.{length, take, drop, get_or-append}
+use lib.ListN.{length, take, get_or-append}
 use lib.Seq.{length-take-le, take-append_seam}
 use borrow.Author.Tests.{eqb-true, leb-true, lt-leb, le-leb, eq-eqb, ne_eqb}
 use Rattle.rules.specs.declared.Chip.{Chip}
 use Rattle.rules.specs.declared.Phase.{Phase}
 use Rattle.rules.specs.declared.Task.{Task}
-use Rattle.rules.specs.declared.Call.TheVariants.{Refused}
-use Rattle.rules.specs.declared.Note.TheVariants.{Empty}
+use Rattle.rules.specs.Answers.{Refused}
+use Rattle.rules.specs.Notes.{Empty}
 use Rattle.rules.specs.declared.Refusal.{Refusal}
 use Rattle.rules.specs.declared.Refusal.TheVariants.{E1}
-use Rattle.rules.specs.declared.Verdict.TheVariants as v
+use Rattle.rules.specs.Answers as v
 use Rattle.rules.specs.First.{first}
-use Rattle.rules.specs.Chip.{byte_at, over}
+use Rattle.rules.specs.Chip.{byte_at}
 use Rattle.rules.specs.Frame.{len_of, frame_size, whole}
 use Rattle.rules.specs.StandIn.{State, rest, listening, start_of, task_now, on_frame, answered, lent_verdict, received}
 use Rattle.rules.specs.WholeFrame.{awaited, frame_verdict, frame_by, frame_call}
 use Rattle.rules.proofs.Choices.{both}
-use Rattle.frame_build.specs.Buffer.{frame_in, Put, put, put_bytes}
-use Rattle.frame_build.proofs.Buffers.{bytes_fit}
+use Rattle.frame_build.specs.Buffer.{frame_in}
 use Rattle.standin_engine.specs.View.{call_outcome, held_count}
 use Rattle.standin_engine.proofs.Receives.{held_take}
 
@@ -51,12 +50,6 @@ module _ (f : List ℕ) where
       let same : len_of (f ++ later) ≡ len_of f = get_or-append f later 0 1 (omega (arith, p.0)) in
       ap (λ (n : ℕ). take n (f ++ later)) (ap frame_size same ∙ sym p.1) ∙ take-append_seam f later
 
-  -- so it is what is then held, put there from the first byte on
-  pub put_held : (n : ℕ) (old new : List ℕ) → whole f ≡ true → length f ≤ length old → put n new ≡ put_bytes f old → frame_in new ≡ f
-  unfolding over
-  put_held n old new w l e =
-      ap (λ (p : Put). frame_in p.buffer) (e ∙ bytes_fit f old l) ∙ frame_held (drop (length f) old) w
-
 -- how many bytes are held of a frame is how many were received
 pub held_length : (n : ℕ) (b : List ℕ) → held_count n b ≤ length b → length (received n b) ≡ held_count n b
 held_length n b l = ap length (held_take n b) ∙ length-take-le (held_count n b) b l
@@ -82,10 +75,23 @@ module _ (chip : Chip) (phase : Phase) (task : Task) (got input : List ℕ) wher
       unfolding awaited
       by_start e = rw (l, eq-eqb (length got) 0 z, e)
 
+  -- three tests hold, and the start byte decides; or one of them does not
+  pub by_tests : (listening phase && eqb (length got) 0 && whole input) ≡ true
+      → eqb (byte_at input 0) (start_of (task_now chip phase task)) ≡ awaited chip phase task got input
+  unfolding awaited
+  by_tests e = rw e
+
+  pub not_by_tests : (listening phase && eqb (length got) 0 && whole input) ≡ false → false ≡ awaited chip phase task got input
+  unfolding awaited
+  not_by_tests e = rw e
+
+  pub last_test : (listening phase && eqb (length got) 0 && whole input) ≡ true → whole input ≡ true
+  last_test e = (both (listening phase && eqb (length got) 0) (whole input) e).1
+
   pub one_frame : awaited chip phase task got input ≡ true → whole input ≡ true
   unfolding awaited
   one_frame e =
-      (both (listening phase && eqb (length got) 0) (whole input) (both (listening phase && eqb (length got) 0 && whole input) (eqb (byte_at input 0) (start_of (task_now chip phase task))) e).0).1
+      last_test (both (listening phase && eqb (length got) 0 && whole input) (eqb (byte_at input 0) (start_of (task_now chip phase task))) e).0
 
 -- ---- the call ----
 

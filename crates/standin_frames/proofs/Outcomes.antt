@@ -3,8 +3,8 @@ use mathlib.Core.Path.{◌≡◌}
 use mathlib.Core.List.{List}
 use Prim.Native.Nat.{ℕ}
 use Rattle.rules.specs.declared.Chip.{Chip}
-use Rattle.rules.specs.declared.Call.{Call}
-use Rattle.rules.specs.declared.Note.{Note}
+use Rattle.rules.specs.Answers.{Call}
+use Rattle.rules.specs.Notes.{Note}
 use Rattle.rules.specs.StandIn.{State}
 use Rattle.rules.specs.WholeFrame.{frame_call}
 use Rattle.standin_engine.specs.View.{call_outcome}

@@ -2,11 +2,10 @@
 -- whenever nothing is half received"; and where E1 is due. Assumes nothing.
 use Rattle.std.specs.Prelude.{ℕ, ◌≡◌, true, List, [], ◌∷◌, length}
 use Rattle.rules.specs.declared.Chip.{Chip}
-use Rattle.rules.specs.declared.Call.TheVariants.{Refused}
-use Rattle.rules.specs.declared.Note.TheVariants.{Empty}
+use Rattle.rules.specs.Answers.{Refused, Accepted}
+use Rattle.rules.specs.Notes.{Empty}
 use Rattle.rules.specs.declared.Options.{Options}
 use Rattle.rules.specs.declared.Refusal.TheVariants.{E1}
-use Rattle.rules.specs.declared.Verdict.TheVariants.{Accepted}
 use Rattle.rules.specs.Chip.{Memory, byte_at}
 use Rattle.rules.specs.Frame.{whole}
 use Rattle.rules.specs.StandIn.{State, Out, listening, start_of, task_now, answered, lent_verdict, outs, feed, powered}

@@ -9,10 +9,8 @@ use Rattle.rules.specs.declared.Chip.{Chip}
 use Rattle.rules.specs.declared.Options.{Options}
 use Rattle.rules.specs.declared.Phase.{Phase}
 use Rattle.rules.specs.declared.Phase.TheVariants.{Mode, Ident, Silent}
-use Rattle.rules.specs.declared.Call.{Call}
-use Rattle.rules.specs.declared.Call.TheVariants.{Answer}
-use Rattle.rules.specs.declared.Verdict.{Verdict}
-use Rattle.rules.specs.declared.Verdict.TheVariants as v
+use Rattle.rules.specs.Answers.{Call, Answer, Verdict}
+use Rattle.rules.specs.Answers as v
 use Rattle.rules.specs.Chip.{Memory, over}
 use Rattle.rules.specs.Options.{IFPR}
 use Rattle.rules.specs.Command.{phase_number}

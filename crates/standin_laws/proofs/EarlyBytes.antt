@@ -13,16 +13,11 @@ use Rattle.rules.specs.declared.Options.{Options}
 use Rattle.rules.specs.declared.Phase.{Phase}
 use Rattle.rules.specs.declared.Phase.TheVariants.{Mode, Speed, Ident, Command, Silent}
 use Rattle.rules.specs.declared.Task.TheVariants.{Idle}
-use Rattle.rules.specs.declared.CodeRow.TheVariants.{Row}
+use Rattle.rules.specs.Answers.{Row, Decoded, Is, Bad, Judged, Faulty, Ordered}
 use Rattle.rules.specs.declared.Order.TheVariants.{BaudRate, Identity}
-use Rattle.rules.specs.declared.Decoded.{Decoded}
-use Rattle.rules.specs.declared.Decoded.TheVariants.{Is, Bad}
-use Rattle.rules.specs.declared.Judged.{Judged}
-use Rattle.rules.specs.declared.Judged.TheVariants.{Faulty, Ordered}
-use Rattle.rules.specs.declared.Fault.{Fault}
-use Rattle.rules.specs.declared.Fault.TheVariants.{EndByte, Sum, Code, Length, Parameter}
-use Rattle.rules.specs.declared.Fault.TheVariants as fault
-use Rattle.rules.specs.declared.Note.{Note}
+use Rattle.rules.specs.Faults.{Fault, EndByte, Sum, Code, Length, Parameter}
+use Rattle.rules.specs.Faults as fault
+use Rattle.rules.specs.Notes.{Note}
 use Rattle.rules.specs.First.{rule, first, first_fault}
 use Rattle.rules.specs.Chip.{Memory, same, ident_of, ident_size, byte_at}
 use Rattle.rules.specs.Options.{IDEN}

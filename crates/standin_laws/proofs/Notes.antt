@@ -1,16 +1,13 @@
 -- Blank Check changes nothing, and a note changes no answer. Assumes nothing.
 use mathlib.Core.Path.{◌≡◌, refl, ap}
 use mathlib.Core.Bool.{Bool, true, false, cond, ◌&&◌}
-use mathlib.Core.List.{List}
-use Prim.Native.Nat.{ℕ}
 use lib.Dec.{eqb}
 use Rattle.rules.specs.declared.Order.TheVariants.{BlankCheck}
-use Rattle.rules.specs.declared.Judged.{Judged}
-use Rattle.rules.specs.declared.Judged.TheVariants.{Faulty, Ordered}
+use Rattle.rules.specs.Answers.{Faulty, Ordered}
 use Rattle.rules.specs.First.{first_fault}
 use Rattle.rules.specs.Frame.{one, status_byte, data_fault}
 use Rattle.rules.specs.Command.{order_checks, unless, judged_order, done}
-use Rattle.rules.specs.StandIn.{State, Out, last_page, on_judged, on_page, on_compare}
+use Rattle.rules.specs.StandIn.{Out, last_page, on_judged, on_page, on_compare}
 use Rattle.standin_laws.specs.Notes.{BlankCheckChangesNothing, SameBytes, SamePair, SamePageBytes}
 
 pub blank_check_changes_nothing : BlankCheckChangesNothing

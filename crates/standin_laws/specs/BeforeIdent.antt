@@ -5,9 +5,8 @@ use Rattle.rules.specs.declared.Chip.{Chip}
 use Rattle.rules.specs.declared.Options.{Options}
 use Rattle.rules.specs.declared.Phase.{Phase}
 use Rattle.rules.specs.declared.Phase.TheVariants.{Ident, Command}
-use Rattle.rules.specs.declared.Note.{Note}
-use Rattle.rules.specs.declared.Call.{Call}
-use Rattle.rules.specs.declared.Call.TheVariants.{Answer}
+use Rattle.rules.specs.Notes.{Note}
+use Rattle.rules.specs.Answers.{Call, Answer}
 use Rattle.rules.specs.Chip.{Memory, ident_of}
 use Rattle.rules.specs.Options.{IDEN}
 use Rattle.rules.specs.Command.{phase_number}

@@ -5,8 +5,8 @@ use Rattle.rules.specs.declared.Flash.{Flash}
 use Rattle.rules.specs.declared.Block.{Block}
 use Rattle.rules.specs.declared.Pages.{Pages}
 use Rattle.rules.specs.declared.Order.TheVariants.{BlankCheck}
-use Rattle.rules.specs.declared.Decoded.TheVariants.{Is}
-use Rattle.rules.specs.declared.Fault.{Fault}
+use Rattle.rules.specs.Answers.{Is}
+use Rattle.rules.specs.Faults.{Fault}
 use Rattle.rules.specs.Frame.{body_of, status_byte, data_fault}
 use Rattle.rules.specs.Command.{judged_order}
 use Rattle.rules.specs.StandIn.{State, refused, last_page, on_judged, on_page, on_compare}

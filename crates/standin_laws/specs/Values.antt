@@ -1,7 +1,7 @@
 -- 02, M-113: values. Two chips with the ID 0A 0B .. 13, flash otherwise different, are fed the same frames. Assumes nothing.
 use Rattle.std.specs.Prelude.{ℕ, List, [], ◌∷◌, ◌++◌, take, drop, replicate}
 use Rattle.rules.specs.declared.Flash.TheVariants.{Code, Data}
-use Rattle.rules.specs.declared.Note.TheVariants.{EndByte}
+use Rattle.rules.specs.Notes.{EndByte}
 use Rattle.rules.specs.Chip.{Memory, small, flash_size, ident_at, ident_size}
 use Rattle.rules.specs.Command.{ident_code}
 use Rattle.trials_rows.specs.Rows.{Exchange, to, to_noted, Session, blank_flash, ack, session, ask_ident, command, one, pair, one_page}

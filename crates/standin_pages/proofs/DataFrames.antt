@@ -7,30 +7,29 @@ use native.Mathlib.Omega.{arith}
 use lib.Dec.{ltb, leb, eqb}
 use lib.ListN.{length, take, drop}
 use borrow.Author.Tests.{ltb-true, leb-true, eqb-true, not-false, lt-ltb, eq-eqb, ne_eqb}
+use Rattle.std.proofs.Common.{Err}
 use Rattle.rules.specs.declared.Chip.{Chip}
+use Rattle.rules.specs.declared.Fault.{Fault as Row}
 use Rattle.rules.specs.declared.Flash.{Flash}
 use Rattle.rules.specs.declared.Flash.TheVariants.{Code, Data}
-use Rattle.rules.specs.declared.Fault.TheVariants.{EndByte, Sum, Length, Difference}
-use Rattle.rules.specs.declared.Note.{Note}
+use Rattle.rules.specs.Faults.{EndByte, Sum, Length, Difference}
+use Rattle.rules.specs.Notes.{Note}
 use Rattle.rules.specs.declared.Pages.{Pages}
 use Rattle.rules.specs.declared.Task.{Task}
 use Rattle.rules.specs.declared.Task.TheVariants.{Programming, Verifying}
 use Rattle.rules.specs.Chip.{Memory, same, flash_of, flash_size, pages, page_of, page_shown}
 use Rattle.rules.specs.First.{rule, first, first_fault}
-use Rattle.rules.specs.Frame.{len_of, end_of, body_of, body_size, end_due, sum_holds, pair, status_byte, note_of, data_fault}
-use Rattle.rules.specs.StandIn.{State, Out, Outcome, out, noted, rest, later, last_page, page_fault, page_written, page_guarded, pair_ends, on_page, compared, on_compare, ahead, answered}
+use Rattle.rules.specs.Frame.{data_start, last_end, len_of, end_of, body_of, body_size, end_due, sum_holds, pair, status_byte, note_of, data_fault}
+use Rattle.rules.specs.StandIn.{State, Out, out, noted, rest, later, last_page, page_fault, page_written, page_guarded, pair_ends, on_page, compared, on_compare, ahead}
 use Rattle.chip_flash.specs.Writing.{Wrote, wrote, programmed}
 use Rattle.rules.proofs.Choices.{both}
 use Rattle.chip_finder.proofs.Geometry.{in_pages, pages_bound}
 use Rattle.chip_finder.proofs.Parts.{shown_there}
 use Rattle.frame_build.specs.Buffer.{frame_in}
+use Rattle.frame_build.proofs.Buffers.{length_frame}
 use Rattle.frame_build.proofs.Frames.{len_in, body_in}
 use Rattle.standin_state.specs.View.{Fits}
 use Rattle.frame_judge.proofs.Faults.{well_byte, first_quiet}
-
--- an answer to a frame, by what the frame comes to
-pub answers : (reply : List ℕ) {x : Outcome} {o q : Out} → o ≡ q → x ≡ answered o reply → x ≡ answered q reply
-answers reply d e = e ∙ ap (λ (y : Out). answered y reply) d
 
 -- each of the lent flashes has its chip's size
 lent_size : (chip : Chip) (m : Memory) {reply : List ℕ} → Fits chip m.code m.«data» reply
@@ -97,6 +96,10 @@ module _ (begun : Pages → Task) (p : Pages) (s : State) (st : ℕ) (m : Memory
       → out (rest s.phase (begun q) s.options m) (pair 0x06 0x06) ≡ told begun p s st m
   told_more e q l = rw (e, l)
 
+-- 06h is no row's byte
+pub no_row : (x : Row) → status_byte (Err x) ≡ 0x06 → ⊥
+no_row x e = cc (well_byte (Err x) e)
+
 module _ (p : Pages) (s : State) (b : List ℕ) (line : ℕ) (judged : line ≡ status_byte (data_fault (last_page p) (frame_in b))) where
   module _ (note : Note) (told-so : note ≡ note_of (data_fault (last_page p) (frame_in b))) where
     -- Programming: a frame fault, or an error in the page before
@@ -139,3 +142,26 @@ module _ (p : Pages) (s : State) (b : List ℕ) (line : ℕ) (judged : line ≡ 
           page_shown_lem chip p pre.0 s.memory pre.1,
           difference,
         )
+
+-- ---- no answer has more than 16 bytes ----
+
+abbrev Short : List ℕ → Type 0
+Short a = length a ≤ 16
+
+pair_short : (a b : ℕ) → Short (pair a b)
+pair_short a b = omega (arith, length_frame data_start last_end (a ∷ b ∷ []))
+
+told_short : (t u : Bool) (x y z : State) (st line status : ℕ) (note : Note)
+    → Short (cond t (cond u (out x (pair 0x06 st)) (out y (pair 0x06 0x06))) (noted note (out z (pair line status)))).answer
+told_short true true x y z st line status note = pair_short 0x06 st
+told_short true false x y z st line status note = pair_short 0x06 0x06
+told_short false u x y z st line status note = pair_short line status
+
+module _ (p : Pages) (s : State) (f : List ℕ) where
+  pub page_short : Short (on_page p s f).answer
+  unfolding on_page
+  page_short = told_short (eqb (status_byte (data_fault (last_page p) f)) 0x06 && eqb p.status 0x06) (last_page p) _ _ _ _ _ _ _
+
+  pub compare_short : Short (on_compare p s f).answer
+  unfolding on_compare
+  compare_short = told_short (eqb (status_byte (data_fault (last_page p) f)) 0x06) (last_page p) _ _ _ _ _ _ _

@@ -11,6 +11,7 @@ use standin::call::{Device, byte_call};
 use standin_engine::ByteAnswer;
 
 // One received byte: the byte call on the record as lent, which then holds what the call left; refused, it is the record that was lent.
+// stays: its clauses are those of `byte_call` (crates/standin/src/call.rt, why).
 pub fn byte_entry(
     d: &mut Device,
     byte: u8,

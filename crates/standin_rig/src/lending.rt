@@ -10,6 +10,7 @@ use super::entry::byte_entry;
 use standin::call::{Answered, Device};
 
 // The promise of the byte call by value, kept by way of the entry.
+// stays: its clauses are those of `byte_call` (crates/standin/src/call.rt, why).
 pub fn byte_lent(
     d: Device,
     byte: u8,
@@ -27,6 +28,6 @@ pub fn byte_lent(
     let answer = byte_entry(&mut lent, byte, code, data, reply);
     Answered {
         device: lent,
-        answer: answer,
+        answer,
     }
 }

@@ -1,16 +1,17 @@
 -- A whole frame handed to a device: taken where what is lent fits, else all stands. Assumes nothing.
-use mathlib.Core.Path.{◌≡◌, subst}
+use mathlib.Core.Path.{◌≡◌, sym, ap, subst, ◌∙◌}
 use mathlib.Core.Bool.{Bool, true, false, cond}
-use mathlib.Core.List.{List}
-use Prim.Native.Nat.{ℕ}
-use lib.ListN.{length}
+use mathlib.Core.List.{List, ◌++◌}
+use Prim.Native.Nat.{ℕ, ◌≤◌}
+use native.Mathlib.Omega.{arith}
+use lib.ListN.{length, take, drop}
+use Rattle.std.proofs.lemmas.List.{append_assoc, drop-append-le, length-take-le, take-append-drop}
 use Rattle.rules.specs.declared.Chip.{Chip}
 use Rattle.rules.specs.declared.Pages.{Pages}
 use Rattle.rules.specs.declared.Refusal.{Refusal}
-use Rattle.rules.specs.declared.Verdict.{Verdict}
-use Rattle.rules.specs.declared.Verdict.TheVariants.{Accepted, Refused}
-use Rattle.rules.specs.Chip.{Memory}
-use Rattle.rules.specs.StandIn.{State, Out, ahead, lent_verdict}
+use Rattle.rules.specs.Answers.{Answer, Verdict, Accepted, Refused}
+use Rattle.rules.specs.Chip.{Memory, over}
+use Rattle.rules.specs.StandIn.{State, Out, Outcome, ahead, lent_verdict}
 use Rattle.standin_state.specs.declared.Response.{Response}
 use Rattle.standin_state.specs.View.{Comes, unanswered, handed, handed_page, Fits}
 use Rattle.standin_state.proofs.Lending.{fits_lent}
@@ -46,3 +47,34 @@ pub fits_taken : (chip : Chip) (code dat reply : List ℕ) → Fits chip code da
 unfolding handed
 fits_taken chip code dat reply f h m new old s x c =
     subst (λ (v : Verdict). Comes h m new (handed v s x) old) (fits_lent chip code dat reply f) c
+
+-- an answer, by what it comes to
+pub same_out : (h : Response) (m : Memory) (new old : List ℕ) (x y : Out) → x ≡ y → Comes h m new x old → Comes h m new y old
+same_out h m new old x y e c = rw (← e) c
+
+-- ---- answers in the first 16 bytes of a reply buffer ----
+
+module _ (old room : List ℕ) (long : 16 ≤ length old) (e : room ≡ take 16 old) where
+  pub room_long : length room ≡ 16
+  room_long = ap length e ∙ length-take-le 16 old long
+
+  -- an answer that fits there leaves the bytes behind them
+  module _ (h : Response) (m : Memory) (x : Out) (new : List ℕ) (short : length x.answer ≤ 16) where
+    over_first : over x.answer room ++ drop 16 old ≡ over x.answer old
+    unfolding over
+    over_first =
+        append_assoc x.answer (drop (length x.answer) room) (drop 16 old)
+        ∙ ap (λ (ys : List ℕ). x.answer ++ ys) (sym (drop-append-le (length x.answer) room (drop 16 old) (omega (arith, room_long))))
+        ∙ ap (λ (ys : List ℕ). x.answer ++ drop (length x.answer) (ys ++ drop 16 old)) e
+        ∙ ap (λ (ys : List ℕ). x.answer ++ drop (length x.answer) ys) (take-append-drop 16 old)
+
+    pub came_in_room : Comes h m new x room → Comes h m (new ++ drop 16 old) x old
+    came_in_room c = (
+      ap (λ (y : Outcome). record { state = y.state; call = y.call; reply = y.reply ++ drop 16 old; note = y.note }) c.0
+          ∙ ap (λ (ys : List ℕ). record { state = x.state; call = Answer (length x.answer); reply = ys; note = x.note }) over_first,
+      c.1,
+    )
+
+  pub room_fits : (chip : Chip) (code dat : List ℕ) → Fits chip code dat old → Fits chip code dat room
+  room_fits chip code dat f =
+      record { counts = f.counts; in_code = f.in_code; in_data = f.in_data; room = omega (arith, room_long) }

@@ -10,7 +10,7 @@ use Rattle.rules.specs.declared.Chip.{Chip}
 use Rattle.rules.specs.declared.Flash.TheVariants.{Code, Data}
 use Rattle.rules.specs.declared.Refusal.{Refusal}
 use Rattle.rules.specs.declared.Refusal.TheVariants.{D0, D1, D2, D3}
-use Rattle.rules.specs.declared.Verdict.TheVariants.{Accepted, Refused}
+use Rattle.rules.specs.Answers.{Accepted, Refused}
 use Rattle.rules.specs.Chip.{known, flash_size}
 use Rattle.rules.specs.First.{first}
 use Rattle.rules.specs.StandIn.{reply_room, flash_verdict, lent_verdict}

@@ -6,9 +6,8 @@ use Rattle.rules.specs.declared.Options.{Options}
 use Rattle.rules.specs.declared.Phase.{Phase}
 use Rattle.rules.specs.declared.Pages.{Pages}
 use Rattle.rules.specs.declared.Task.{Task}
-use Rattle.rules.specs.declared.Call.TheVariants.{Answer}
-use Rattle.rules.specs.declared.Verdict.{Verdict}
-use Rattle.rules.specs.declared.Verdict.TheVariants.{Accepted, Refused}
+use Rattle.rules.specs.Notes.{Note}
+use Rattle.rules.specs.Answers.{Answer, Verdict, Accepted, Refused}
 use Rattle.rules.specs.Chip.{Memory, known, flash_size}
 use Rattle.rules.specs.StandIn.{State, Out, Outcome, out, rest, ahead, answered}
 use Rattle.standin_state.specs.declared.Core.{Core}
@@ -21,6 +20,10 @@ resting ph t o = record { phase = ph; task = t; options = o; have = 0 }
 -- and the state that a record with nothing received shows
 abbrev pub idle : Core → Memory → State
 idle c m = rest c.phase c.task c.options m
+
+-- the device after a whole frame, how many bytes it answered, and its note
+abbrev pub response : Core → ℕ → Note → Response
+response k n note = record { core = k; answered = n; note = note }
 
 -- what a whole frame came to
 abbrev pub frame_outcome : Response → Memory → List ℕ → Outcome

@@ -3,25 +3,26 @@ ghost use Rattle.std.specs.Prelude.{◌≡◌, true};
 ghost use Rattle.rules.specs.Chip.{known};
 ghost use Rattle.rules.specs.StandIn.{flash_verdict, lent_verdict};
 
-use rules::{Chip, Flash, REPLY_ROOM, Refusal, Verdict};
+use rules::{Chip, Flash, REPLY_ROOM, Refusal};
 
 // D1 and D2, of a chip that is known.
-fn sizes_verdict(chip: Chip, code: usize, data: usize) -> Verdict
+#[tactic(auto, using(crate::proofs::Lending::no_code, crate::proofs::Lending::no_data, crate::proofs::Lending::flashes_fit))]
+fn sizes_verdict(chip: Chip, code: usize, data: usize) -> Result<(), Refusal>
     requires { known chip ≡ true }
     ensures { result ≡ flash_verdict chip code «data» }
 {
     if !chip_finder::has_size(chip, Flash::Code, code) {
-        return Verdict::Refused(Refusal::D1);
+        return Err(Refusal::D1);
     }
     if !chip_finder::has_size(chip, Flash::Data, data) {
-        return Verdict::Refused(Refusal::D2);
+        return Err(Refusal::D2);
     }
-    Verdict::Accepted
+    Ok(())
 }
 
-// D0, D1 and D2, by the chip and the lengths of the lent flashes. Each chip is asked for by itself: its sizes are then numbers, and no byte has to
-// work them out.
-pub fn flash_verdict(chip: Chip, code: usize, data: usize) -> Verdict
+// D0, D1 and D2, by the chip and the lengths of the lent flashes.
+// stays: (speed, docs/SPEED.md, "Each chip is asked for by itself") its sizes are then numbers, and no byte has to work them out.
+pub fn flash_verdict(chip: Chip, code: usize, data: usize) -> Result<(), Refusal>
     ensures { result ≡ flash_verdict chip code «data» }
 {
     let small = chip_finder::small();
@@ -32,19 +33,17 @@ pub fn flash_verdict(chip: Chip, code: usize, data: usize) -> Verdict
     if chip_finder::same_counts(chip, large) {
         return sizes_verdict(large, code, data);
     }
-    Verdict::Refused(Refusal::D0)
+    Err(Refusal::D0)
 }
 
 // The same, then D3 by the length of the reply buffer.
 #[tactic(auto, using(crate::proofs::Lending::no_room, crate::proofs::Lending::all_lent))]
-pub fn lent_verdict(chip: Chip, code: usize, data: usize, reply: usize) -> Verdict
+pub fn lent_verdict(chip: Chip, code: usize, data: usize, reply: usize) -> Result<(), Refusal>
     ensures { result ≡ lent_verdict chip code «data» reply }
 {
-    if let Verdict::Refused(refusal) = flash_verdict(chip, code, data) {
-        return Verdict::Refused(refusal);
-    }
+    flash_verdict(chip, code, data)?;
     if reply < REPLY_ROOM {
-        return Verdict::Refused(Refusal::D3);
+        return Err(Refusal::D3);
     }
-    Verdict::Accepted
+    Ok(())
 }

@@ -1,6 +1,10 @@
 // The device's small state, and the phases and commands begun that it goes through.
 #![tactic(auto)]
 
+ghost use Rattle.std.specs.Prelude.{◌≡◌};
+ghost use Rattle.standin_state.specs.View.{resting, response};
+
+use crate::resting::at_rest;
 use rules::{Note, Options, Phase, Task};
 
 pub mod lent;
@@ -22,5 +26,24 @@ pub struct Core {
 pub struct Response {
     pub core: Core,
     pub answered: usize,
-    pub note: Note,
+    pub note: Option<Note>,
+}
+
+impl Response {
+    // The device with nothing received, so many bytes answered, and that note.
+    pub fn resting(
+        phase: Phase,
+        task: Task,
+        options: Options,
+        answered: usize,
+        note: Option<Note>,
+    ) -> Response
+        ensures { result ≡ response (resting phase task options) answered note }
+    {
+        Response {
+            core: at_rest(phase, task, options),
+            answered,
+            note,
+        }
+    }
 }

@@ -6,12 +6,12 @@ ghost use Rattle.rules.specs.StandIn.{powered_phase};
 ghost use Rattle.standin_state.specs.View.{resting, idle, Comes, unanswered};
 
 use crate::{Core, Response};
-use rules::{Note, Options, Pages, Phase, Task};
+use rules::{Options, Pages, Phase, Task};
 
 pub fn at_rest(phase: Phase, task: Task, options: Options) -> Core
     ensures { result ≡ resting phase task options }
 {
-    // the options field by field: copied whole, the window's two words would be packed into one and taken apart again around each frame
+    // stays: (speed, docs/SPEED.md, "Options at rest") the options field by field: copied whole, the window's two words would be packed into one and taken apart again around each frame
     let own = Options {
         sf1: options.sf1,
         sf2: options.sf2,
@@ -26,14 +26,13 @@ pub fn at_rest(phase: Phase, task: Task, options: Options) -> Core
     }
 }
 
-// A command begun, made anew field by field: copied whole, it would take along the bytes between its fields, and an engine that stays a call would
+// stays: (speed, docs/SPEED.md, "Where all stands") a command begun, made anew field by field: copied whole, it would take along the bytes between its fields, and an engine that stays a call would
 // read them at each byte that comes.
 fn pages_anew(p: Pages) -> Pages
     ensures { result ≡ p }
 {
-    let f = p.flash;
     Pages {
-        flash: f,
+        flash: p.flash,
         page: p.page,
         left: p.left,
         status: p.status,
@@ -51,20 +50,15 @@ fn task_anew(task: Task) -> Task
 }
 
 // All stands, with nothing received and nothing answered.
+#[tactic(auto, unfolding(rules::specs::Chip::over))]
 pub fn unanswered(c: Core) -> Response
     ensures { (m : Memory) (reply : List ℕ) → Comes result m reply (unanswered (idle c m)) reply }
 {
-    let phase = c.phase;
-    let task = c.task;
-    let o = c.options;
-    Response {
-        core: at_rest(phase, task_anew(task), o),
-        answered: 0,
-        note: Note::Empty,
-    }
+    Response::resting(c.phase, task_anew(c.task), c.options, 0, None)
 }
 
 // The phase after a power-on.
+// stays: beside `tasks::after_speed`; they ask for different bits and lead to different phases.
 fn powered_phase(o: Options) -> Phase
     ensures { result ≡ powered_phase o }
 {

@@ -10,39 +10,17 @@ use rules::{Block, Chip, Flash, Options, Pages, Phase, Task};
 pub fn ahead(chip: Chip, p: Pages) -> bool
     ensures { result ≡ ahead chip p }
 {
-    let f = p.flash;
-    let n = chip_finder::page_count(chip, f);
-    if p.left == 0 {
-        return false;
-    }
-    if n < p.left {
-        return false;
-    }
-    // the last page from which so many are in the flash
-    let last = n - p.left;
-    if last < p.page {
-        return false;
-    }
-    true
+    let n = chip_finder::page_count(chip, p.flash);
+    // the page is asked for by the last one from which so many are in the flash: no sum can wrap
+    0 < p.left && p.left <= n && p.page <= n - p.left
 }
 
 fn task_in(chip: Chip, task: Task) -> Task
     ensures { result ≡ task_in chip task }
 {
     match task {
-        Task::Idle => Task::Idle,
-        Task::Programming(p) => {
-            if ahead(chip, p) {
-                return Task::Programming(p);
-            }
-            Task::Idle
-        }
-        Task::Verifying(p) => {
-            if ahead(chip, p) {
-                return Task::Verifying(p);
-            }
-            Task::Idle
-        }
+        Task::Programming(p) | Task::Verifying(p) if ahead(chip, p) => task,
+        _ => Task::Idle,
     }
 }
 
@@ -52,11 +30,8 @@ pub fn task_now(chip: Chip, phase: Phase, task: Task) -> Task
     ensures { result ≡ task_now chip phase task }
 {
     match phase {
-        Phase::Mode => Task::Idle,
-        Phase::Speed => Task::Idle,
-        Phase::Ident => Task::Idle,
         Phase::Command => task_in(chip, task),
-        Phase::Silent => Task::Idle,
+        _ => Task::Idle,
     }
 }
 
@@ -66,8 +41,7 @@ pub fn start_of(task: Task) -> u8
 {
     match task {
         Task::Idle => 0x01,
-        Task::Programming(_) => 0x02,
-        Task::Verifying(_) => 0x02,
+        Task::Programming(_) | Task::Verifying(_) => 0x02,
     }
 }
 
@@ -75,12 +49,7 @@ pub fn start_of(task: Task) -> u8
 fn blocks_from(first: Block, last: Block) -> usize
     ensures { (result ≡ blocks_from first last) × (result ≤ 65536) }
 {
-    let begin = first.0 as usize;
-    let end = last.0 as usize + 1;
-    if end < begin {
-        return 0;
-    }
-    end - begin
+    (last.0 as usize + 1).saturating_sub(first.0 as usize)
 }
 
 // The pages from the first to the last block of a range, none of them come yet.
@@ -100,13 +69,10 @@ pub fn pages_awaited(f: Flash, first: Block, last: Block) -> Pages
 pub fn after_mode(byte: u8) -> Phase
     ensures { result ≡ after_mode byte }
 {
-    if byte == 0x3A {
-        return Phase::Speed;
+    match byte {
+        0x00 | 0x3A => Phase::Speed,
+        _ => Phase::Silent,
     }
-    if byte == 0x00 {
-        return Phase::Speed;
-    }
-    Phase::Silent
 }
 
 pub fn after_speed(o: Options) -> Phase

@@ -8,19 +8,12 @@ use borrow.Author.Tests.{ne_eqb}
 use Rattle.rules.specs.declared.Chip.{Chip}
 use Rattle.rules.specs.declared.Flash.{Flash}
 use Rattle.rules.specs.declared.Block.{Block}
-use Rattle.rules.specs.declared.Found.{Found}
-use Rattle.rules.specs.declared.Found.TheVariants.{In, Nowhere}
-use Rattle.rules.specs.declared.Range.{Range}
-use Rattle.rules.specs.declared.Range.TheVariants.{Blocks, Invalid}
+use Rattle.rules.specs.Answers.{Found, In, Nowhere, Range, Blocks, Invalid, Decoded, Is, Bad, Judged, Faulty, Ordered}
 use Rattle.rules.specs.declared.Options.{Options}
 use Rattle.rules.specs.declared.Phase.{Phase}
 use Rattle.rules.specs.declared.Order.{Order}
 use Rattle.rules.specs.declared.Order.TheVariants.{Verify, BlankCheck, Program, BaudRate, Checksum}
-use Rattle.rules.specs.declared.Decoded.{Decoded}
-use Rattle.rules.specs.declared.Decoded.TheVariants.{Is, Bad}
-use Rattle.rules.specs.declared.Fault.{Fault}
-use Rattle.rules.specs.declared.Judged.{Judged}
-use Rattle.rules.specs.declared.Judged.TheVariants.{Faulty, Ordered}
+use Rattle.rules.specs.Faults.{Fault}
 use Rattle.rules.specs.Chip.{Memory, byte_at, blocks, erase_address, range}
 use Rattle.rules.specs.First.{first_fault}
 use Rattle.rules.specs.Frame.{status_byte}

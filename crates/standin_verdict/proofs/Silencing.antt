@@ -1,8 +1,7 @@
 -- The phase behind a fault: all that silence do the same, and any other leaves it. Assumes nothing.
 use mathlib.Core.Path.{◌≡◌, refl}
 use mathlib.Core.Bool.{true, false}
-use Rattle.rules.specs.declared.Fault.{Fault}
-use Rattle.rules.specs.declared.Fault.TheVariants.{Parameter}
+use Rattle.rules.specs.Faults.{Fault, Parameter}
 use Rattle.rules.specs.declared.Phase.{Phase}
 use Rattle.rules.specs.declared.Phase.TheVariants.{Mode, Speed, Ident, Command, Silent}
 use Rattle.rules.specs.StandIn.{silences, phase_after}

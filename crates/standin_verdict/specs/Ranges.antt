@@ -3,9 +3,8 @@ use Rattle.std.specs.Prelude.{ℕ, not, ◌&&◌, List, [], ◌∷◌, eqb}
 use Rattle.rules.specs.declared.Flash.{Flash}
 use Rattle.rules.specs.declared.Block.{Block}
 use Rattle.rules.specs.declared.Options.{Options}
-use Rattle.rules.specs.declared.Note.TheVariants.{Bits}
-use Rattle.rules.specs.declared.Fault.{Fault}
-use Rattle.rules.specs.declared.Fault.TheVariants.{NotBlank}
+use Rattle.rules.specs.Notes.{Bits}
+use Rattle.rules.specs.Faults.{Fault, NotBlank}
 use Rattle.rules.specs.First.{Rule, rule}
 use Rattle.rules.specs.Chip.{blank}
 use Rattle.rules.specs.Options.{blank_options}

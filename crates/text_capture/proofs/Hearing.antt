@@ -1,20 +1,19 @@
 -- Laws of a line heard: a byte that is not refused, one byte more of a row, and a line by its sign. Assumes nothing.
 use mathlib.Core.Path.{◌≡◌, refl, sym, ap, ◌∙◌}
 use mathlib.Core.List.{List, [], ◌∷◌, ◌++◌}
-use Prim.Native.Nat.{ℕ, ◌+◌, ◌-◌, ◌<◌, ◌≤◌}
+use Prim.Native.Nat.{ℕ, ◌+◌, ◌<◌, ◌≤◌}
 use native.Mathlib.Numerals.{add-one}
 use native.Mathlib.Omega.{arith}
 use lib.ListN.{length, get_or, take, drop, length-append, drop_of_length-le}
 use lib.Seq.{drop-cons, take_at}
-use borrow.Author.Tests.{eq-eqb, ne_eqb, le-leb}
+use borrow.Author.Tests.{eq-eqb, ne_eqb}
 use Rattle.rules.specs.declared.Chip.{Chip}
-use Rattle.rules.specs.declared.Call.{Call}
-use Rattle.rules.specs.declared.Call.TheVariants.{Refused, Answer}
-use Rattle.rules.specs.declared.Note.{Note}
+use Rattle.rules.specs.Answers.{Call, Refused, Answer}
+use Rattle.rules.specs.Notes.{Note}
 use Rattle.rules.specs.declared.Refusal.{Refusal}
-use Rattle.rules.specs.declared.Verdict.TheVariants as v
+use Rattle.rules.specs.Answers as v
 use Rattle.rules.specs.Chip.{byte_at, over}
-use Rattle.rules.specs.Lines.{between, row_bytes}
+use Rattle.rules.specs.Lines.{row_bytes}
 use Rattle.rules.specs.Run.{all_bytes}
 use Rattle.rules.specs.StandIn.{State, Outcome, powered, step, feed, lent_verdict, byte_call, answered}
 use Rattle.rules.specs.Capture.{power_sign, sent_sign, Heard, heard, fed_with, hears}
@@ -54,11 +53,6 @@ module _ (chip : Chip) (s : State) (b : ℕ) (reply : List ℕ)
     byte_room = rw (ap (λ (o : Outcome). o.reply) is_step, count_is, length-append) (omega arith)
 
 -- ---- a row, from its k-th byte on ----
-
--- the first bytes of the reply buffer, as they are handed on
-pub front_part : (n : ℕ) (t : List ℕ) → n ≤ length t → between 0 n t ≡ take n t
-unfolding between
-front_part n t h = let e : n - 0 ≡ n = omega arith in rw (le-leb n (length t) h, e)
 
 module _ (chip : Chip) (s : State) (bs : List ℕ) (k : ℕ) where
   byte_k : k < length bs → drop k bs ≡ get_or bs k 0 ∷ drop (k + 1) bs

@@ -12,8 +12,8 @@ use Rattle.rules.specs.declared.Options.{Options}
 use Rattle.rules.specs.declared.Phase.TheVariants.{Silent}
 use Rattle.rules.specs.declared.Task.TheVariants.{Idle}
 use Rattle.rules.specs.declared.Refusal.{Refusal}
-use Rattle.rules.specs.declared.Verdict.TheVariants as verdict
-use Rattle.rules.specs.declared.capture.CaptureVerdict.TheVariants.{Accepted, Wrong, BadForm, Refused}
+use Rattle.rules.specs.Answers as verdict
+use Rattle.rules.specs.CaptureVerdicts.{Accepted, Wrong, BadForm, Refused}
 use Rattle.rules.specs.Chip.{Memory, same}
 use Rattle.rules.specs.Lines.{lines_of, first_line}
 use Rattle.rules.specs.StandIn.{flash_verdict, received}

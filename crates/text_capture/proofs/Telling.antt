@@ -4,8 +4,7 @@ use mathlib.Core.List.{List}
 use Prim.Native.Nat.{ℕ, ◌≤◌}
 use native.Mathlib.Omega.{arith}
 use lib.ListN.{length, length-append}
-use Rattle.rules.specs.declared.capture.CaptureVerdict.{CaptureVerdict}
-use Rattle.rules.specs.declared.capture.CaptureVerdict.TheVariants.{Accepted, Wrong, BadForm, Refused}
+use Rattle.rules.specs.CaptureVerdicts.{CaptureVerdict, Accepted, Wrong, BadForm, Refused}
 use Rattle.rules.specs.Text.{decimal, digits}
 use Rattle.rules.specs.Capture.{capture_line}
 use Rattle.text_out.specs.Out.{out, add, Filled}

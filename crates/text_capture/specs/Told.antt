@@ -1,7 +1,6 @@
 -- What the program `capture` writes of a verdict. Assumes nothing.
 use Rattle.std.specs.Prelude.{ℕ, List, ◌++◌}
-use Rattle.rules.specs.declared.capture.CaptureVerdict.{CaptureVerdict}
-use Rattle.rules.specs.declared.capture.CaptureVerdict.TheVariants.{Accepted, Wrong, BadForm, Refused}
+use Rattle.rules.specs.CaptureVerdicts.{CaptureVerdict, Accepted, Wrong, BadForm, Refused}
 use Rattle.rules.specs.Text.{ascii, decimal, refused_line}
 
 unfoldable pub line_told : List ℕ → ℕ → List ℕ

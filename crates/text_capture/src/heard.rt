@@ -1,6 +1,6 @@
 // What the chip gives to a line, compared with the line behind it. There is no buffer of answers: they may be longer than the capture.
 ghost use Rattle.std.specs.Prelude.{◌≡◌, ◌≤◌, length, take};
-ghost use Rattle.rules.specs.declared.Verdict.TheVariants.{Accepted};
+ghost use Rattle.rules.specs.Answers.{Accepted};
 ghost use Rattle.rules.specs.Chip.{same};
 ghost use Rattle.rules.specs.Lines.{row_bytes};
 ghost use Rattle.rules.specs.Run.{all_bytes};
@@ -17,7 +17,7 @@ use standin_state::resting::powered;
 use text_read::part;
 use text_read::rows::{row_byte, row_count};
 use text_session::line::given_row;
-use text_session::matching::{Matching, begun, compare, is_all};
+use text_session::matching::{compare, is_all};
 
 // The chip after a byte, and how many bytes of the reply buffer it answered.
 #[derive(Clone, Copy)]
@@ -26,6 +26,7 @@ struct HeardByte {
     answered: usize,
 }
 
+// stays: no Option, since the chip has heard the line in both cases, and goes on from there where the next one fits.
 // The chip after a line, and whether the line behind gives just what it answered.
 #[derive(Clone, Copy)]
 pub(crate) struct HeardLine {
@@ -47,24 +48,21 @@ fn hear_byte(
     ensures data_after { view result.core held.new (memory code.new «data».new) ≡ (step chip (view c held.old (memory code.old «data».old)) byte).state }
     ensures reply_after { (take result.answered reply.new ≡ (step chip (view c held.old (memory code.old «data».old)) byte).answer) × (result.answered ≤ length reply.new) }
 {
-    let changed = byte_change(chip, c, byte, held, code, data, reply);
-    match changed {
-        Change::Refused(_) => HeardByte {
+    let Ok(changed) = byte_change(chip, c, byte, held, code, data, reply) else {
+        return HeardByte {
             core: c,
             answered: 0,
+        };
+    };
+    match changed {
+        Change::Held(n) => HeardByte {
+            core: Core { have: n, ..c },
+            answered: 0,
         },
-        Change::Held(n) => {
-            let mut core = c;
-            core.have = n;
-            HeardByte { core, answered: 0 }
-        }
-        Change::Whole(h) => {
-            let core = h.core;
-            HeardByte {
-                core,
-                answered: h.answered,
-            }
-        }
+        Change::Whole(h) => HeardByte {
+            core: h.core,
+            answered: h.answered,
+        },
     }
 }
 
@@ -84,15 +82,16 @@ fn hear_row(
 {
     let mut reply = [0u8; 16];
     let mut core = c;
-    let mut m = begun();
+    let mut stands = Some(0);
+    // stays: a row is text, and the number of a byte says where in it the byte stands; no slice of its bytes lies in memory
     for k in 0..row_count(sent) {
         let h = hear_byte(chip, core, row_byte(sent, k), held, code, data, &mut reply);
         core = h.core;
-        m = compare(m, part::between(&reply, 0, h.answered), row);
+        stands = compare(stands, &reply[..h.answered], row);
     }
     HeardLine {
         core,
-        right: is_all(m, row),
+        right: is_all(stands, row),
     }
 }
 
@@ -115,16 +114,12 @@ pub(crate) fn hear(
     if sign == b'>' {
         return hear_row(chip, c, part::rest(before, 1), row, held, code, data);
     }
-    let none = row_count(row) == 0;
+    let right = row_count(row) == 0;
     if sign == b'!' {
-        let o = c.options;
         return HeardLine {
-            core: powered(o),
-            right: none,
+            core: powered(c.options),
+            right,
         };
     }
-    HeardLine {
-        core: c,
-        right: none,
-    }
+    HeardLine { core: c, right }
 }

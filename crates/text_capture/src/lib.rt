@@ -5,7 +5,7 @@ mod heard;
 pub mod told;
 
 ghost use Rattle.std.specs.Prelude.{◌≡◌, length};
-ghost use Rattle.rules.specs.declared.Verdict.TheVariants.{Accepted};
+ghost use Rattle.rules.specs.Answers.{Accepted};
 ghost use Rattle.rules.specs.Lines.{lines_of};
 ghost use Rattle.rules.specs.StandIn.{flash_verdict};
 ghost use Rattle.rules.specs.Capture.{stated, judged, captured, capture_number, capture_line};
@@ -13,8 +13,8 @@ ghost use Rattle.chip_finder.specs.LentFlashes.{memory};
 ghost use Rattle.text_capture.specs.Looking.{looked_as};
 
 use heard::hear;
-use rules::capture::CaptureVerdict;
-use rules::{Chip, Options, Phase, Task, Verdict};
+use rules::capture::CaptureFault;
+use rules::{Chip, Options, Phase, Task};
 use standin_state::lent::flash_verdict;
 use standin_state::resting::at_rest;
 use text_read::line::line_end;
@@ -23,7 +23,7 @@ use text_session::line::{fits, is_line};
 // The verdict, and the options as the lines before the one that it names left them.
 #[derive(Clone, Copy)]
 pub struct LookedOver {
-    pub verdict: CaptureVerdict,
+    pub verdict: Result<(), CaptureFault>,
     pub options: Options,
 }
 
@@ -41,66 +41,43 @@ fn look_at_lines(
 {
     let mut held = [0u8; 260];
     let mut core = at_rest(Phase::Silent, Task::Idle, options);
-    let mut from: usize = 0;
-    let mut to: usize = 0;
+    let mut before = &text[0..0];
     let mut done: usize = 0;
     let mut at: usize = 0;
+    // stays: `split` at LF gives what stands behind the last LF as one more line, and `split_inclusive` gives each line with its LF, to be asked for and taken off again: no plainer
     while at < text.len() {
         let end = line_end(text, at);
-        let h = hear(
-            chip,
-            core,
-            &text[from..to],
-            &text[at..end],
-            &mut held,
-            code,
-            data,
-        );
+        let line = &text[at..end];
+        let h = hear(chip, core, before, line, &mut held, code, data);
         core = h.core;
-        let o = core.options;
-        if end >= text.len() {
+        if end >= text.len() || !is_line(line) {
             return LookedOver {
-                verdict: CaptureVerdict::BadForm(done + 1),
-                options: o,
+                verdict: Err(CaptureFault::BadForm(done + 1)),
+                options: core.options,
             };
         }
-        if !is_line(&text[at..end]) {
+        if !fits(done, line, h.right) {
             return LookedOver {
-                verdict: CaptureVerdict::BadForm(done + 1),
-                options: o,
+                verdict: Err(CaptureFault::Wrong(done + 1)),
+                options: core.options,
             };
         }
-        if !fits(done, &text[at..end], h.right) {
-            return LookedOver {
-                verdict: CaptureVerdict::Wrong(done + 1),
-                options: o,
-            };
-        }
-        from = at;
-        to = end;
+        before = line;
         at = end + 1;
         done += 1;
     }
-    let h = hear(
-        chip,
-        core,
-        &text[from..to],
-        &text[0..0],
-        &mut held,
-        code,
-        data,
-    );
-    let last = h.core;
-    let o = last.options;
-    if !fits(done, &text[0..0], h.right) {
+    let last = &text[0..0];
+    let h = hear(chip, core, before, last, &mut held, code, data);
+    let options = h.core.options;
+    if !fits(done, last, h.right) {
         return LookedOver {
-            verdict: CaptureVerdict::Wrong(done + 1),
-            options: o,
+            verdict: Err(CaptureFault::Wrong(done + 1)),
+            options,
         };
     }
     LookedOver {
-        verdict: CaptureVerdict::Accepted,
-        options: o,
+        verdict: Ok(()),
+        options,
     }
 }
 
@@ -116,9 +93,9 @@ pub fn look_over(
     ensures verdict_value { capture_number result.verdict ≡ capture_number (captured chip options (memory code.old «data».old) text.now).verdict }
     ensures verdict_value_2 { capture_line result.verdict ≡ capture_line (captured chip options (memory code.old «data».old) text.now).verdict }
 {
-    if let Verdict::Refused(refusal) = flash_verdict(chip, code.len(), data.len()) {
+    if let Err(refusal) = flash_verdict(chip, code.len(), data.len()) {
         return LookedOver {
-            verdict: CaptureVerdict::Refused(refusal),
+            verdict: Err(CaptureFault::Refused(refusal)),
             options,
         };
     }

@@ -3,7 +3,7 @@ ghost use Rattle.std.specs.Prelude.{◌≡◌};
 ghost use Rattle.text_out.specs.Out.{out, add, Filled};
 ghost use Rattle.text_capture.specs.Told.{line_told, verdict_told};
 
-use rules::capture::CaptureVerdict;
+use rules::capture::CaptureFault;
 use text_out::{put, put_bytes};
 use text_told::lines::put_refused;
 use text_told::words::put_count;
@@ -19,13 +19,15 @@ fn put_line(buf: &mut [u8], words: &[u8], n: usize) -> usize
 }
 
 // The line that tells the verdict, from the first byte of a buffer on.
-pub fn put_verdict(buf: &mut [u8], v: CaptureVerdict) -> usize
+pub fn put_verdict(buf: &mut [u8], v: Result<(), CaptureFault>) -> usize
     ensures { Filled (verdict_told v) buf.old result buf.new }
 {
-    match v {
-        CaptureVerdict::Accepted => put_bytes(buf, 0, b"accepted\n"),
-        CaptureVerdict::Wrong(n) => put_line(buf, b"wrong line ", n),
-        CaptureVerdict::BadForm(n) => put_line(buf, b"bad form line ", n),
-        CaptureVerdict::Refused(refusal) => put_refused(buf, refusal),
+    let Err(fault) = v else {
+        return put_bytes(buf, 0, b"accepted\n");
+    };
+    match fault {
+        CaptureFault::Wrong(n) => put_line(buf, b"wrong line ", n),
+        CaptureFault::BadForm(n) => put_line(buf, b"bad form line ", n),
+        CaptureFault::Refused(refusal) => put_refused(buf, refusal),
     }
 }

@@ -1,45 +1,31 @@
 -- Laws of cells: given or not, and bytes put into them. Assumes nothing.
 use mathlib.Core.Path.{◌≡◌, refl, ap, ◌∙◌}
 use mathlib.Core.Bool.{Bool, true, false, cond}
-use mathlib.Core.List.{List, append_assoc}
+use mathlib.Core.List.{List, [], ◌∷◌}
 use Prim.Native.Nat.{ℕ, ◌+◌, ◌-◌, ◌<◌, ◌≤◌}
-use lib.Dec.{leb}
-use native.Mathlib.Numerals.{add-one}
+use lib.Dec.{leb, ltb}
+use Rattle.std.specs.Prelude.{◌||◌}
+use Rattle.std.specs.List.{list_any}
 use native.Mathlib.Omega.{arith}
-use lib.ListN.{length, get_or, set, take, drop, drop_of_length-le}
-use lib.Seq.{drop-cons, drop-drop, take-length, paste, paste-suc}
-use borrow.Author.Tests.{lt-ltb, le-ltb, le-leb, lt-leb, eq-eqb, ne_eqb}
+use lib.ListN.{length, take, drop}
+use borrow.Author.Tests.{le-leb, lt-leb, eq-eqb, ne_eqb}
 use Rattle.rules.specs.declared.Flash.{Flash}
 use Rattle.rules.specs.declared.Flash.TheVariants.{Code, Data}
-use Rattle.rules.specs.declared.hex.HexRead.{HexRead}
-use Rattle.rules.specs.declared.hex.HexRead.TheVariants.{On, Refused}
+use Rattle.rules.specs.Answers.{HexRead, On, Refused}
 use Rattle.rules.specs.declared.hex.HexRefusal.TheVariants.{Outside, Twice}
 use Rattle.rules.specs.Chip.{Memory, flash_of, with_flash}
-use Rattle.rules.specs.Hex.{data_of, any_given, put_bytes, taken, lies_in, bytes_in, bytes_at}
+use Rattle.rules.specs.Hex.{any_given, put_bytes, taken, lies_in, bytes_in, bytes_at}
 use Rattle.rules.proofs.Choices.{and_false}
 use Rattle.text_cells.specs.OneFlash.{Held, held_in}
-use Rattle.text_record.proofs.Records.{data_at}
 
-module _ (cs : List ℕ) (i : ℕ) where
-  pub given_here : i < length cs → get_or cs i 0 < 256 → any_given (drop i cs) ≡ true
-  unfolding any_given
-  given_here h g = rw (drop-cons cs i 0) (simp (lt-ltb _ _ g))
-
-  pub given_later : i < length cs → 256 ≤ get_or cs i 0 → any_given (drop i cs) ≡ any_given (drop (i + 1) cs)
-  unfolding any_given
-  given_later h g = rw (drop-cons cs i 0, add-one) (simp (le-ltb _ _ g))
-
-  pub none_given : length cs ≤ i → any_given (drop i cs) ≡ false
-  unfolding any_given
-  none_given h = rw (drop_of_length-le cs h)
-
-module _ (at : ℕ) (bs cs : List ℕ) where
-  pub one_put : (i : ℕ) → at + i < length cs → i < length (data_of bs) → set (paste cs at (data_of bs) i) (at + i) (get_or bs (4 + i) 0) ≡ paste cs at (data_of bs) (i + 1)
-  one_put i h g = rw (add-one i, ← data_at bs i g) (paste-suc cs at (data_of bs) i 0 h g)
-
-  pub all_put : (n : ℕ) → n ≡ length bs → paste cs at bs n ≡ put_bytes at bs cs
-  unfolding put_bytes
-  all_put n e = rw (e, take-length bs, drop-drop) (append_assoc (take at cs) bs (drop (at + length bs) cs))
+pub given_any : (cs : List ℕ) → any_given cs ≡ list_any (λ x. ltb x 256) cs
+unfolding any_given
+given_any [] = refl
+given_any (c ∷ cs) = go (ltb c 256) (given_any cs)
+  where
+    go : (x : Bool) → any_given cs ≡ list_any (λ y. ltb y 256) cs → cond x true (any_given cs) ≡ (x || list_any (λ y. ltb y 256) cs)
+    go true e = refl
+    go false e = e
 
 -- ---- the bytes of a record in one flash ----
 

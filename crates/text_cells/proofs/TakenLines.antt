@@ -6,14 +6,24 @@ use Prim.Native.Nat.{ℕ, ◌+◌, ◌-◌, ◌<◌, ◌≤◌}
 use native.Mathlib.Omega.{arith}
 use lib.Dec.{eqb}
 use lib.ListN.{length, take, drop, length-drop, drop_of_length-le}
-use Rattle.rules.specs.declared.hex.HexRead.{HexRead}
-use Rattle.rules.specs.declared.hex.HexRead.TheVariants.{On, Ended, Refused}
+use Rattle.std.specs.Prelude.{Err}
+use Rattle.rules.specs.Answers.{HexRead, On, Ended, Refused}
+use Rattle.rules.specs.declared.hex.HexFault.{HexFault}
+use Rattle.rules.specs.declared.hex.HexFault.TheVariants as fault
 use Rattle.rules.specs.declared.hex.HexRefusal.{HexRefusal}
 use Rattle.rules.specs.declared.hex.HexRefusal.TheVariants.{BadForm, AfterEnd}
 use Rattle.rules.specs.Chip.{Memory}
 use Rattle.rules.specs.Lines.{line, onto, lines_of, first_line}
-use Rattle.rules.specs.Hex.{taken, line_taken, Reading, reading, after_end, goes_on, read_lines}
+use Rattle.rules.specs.Hex.{taken, taken_as, line_taken, Reading, reading, after_end, goes_on, read_lines}
+use Rattle.text_cells.specs.OneFlash.{refusal_at}
 use Rattle.text_read.proofs.Lines.{next_line, last_line}
+
+-- a line with a fault, as its refusal
+pub refused_line : (f : HexFault) (n : ℕ) (bs : List ℕ) (u : ℕ) (m : Memory) → taken (Refused (refusal_at n f)) u m ≡ taken_as (Err f) n bs u m
+unfolding refusal_at taken_as
+refused_line fault.BadForm n bs u m = refl
+refused_line fault.WrongSum n bs u m = refl
+refused_line fault.OtherType n bs u m = refl
 
 -- what comes of the lines from `at` on
 abbrev pub onward : List ℕ → ℕ → ℕ → ℕ → Memory → Reading

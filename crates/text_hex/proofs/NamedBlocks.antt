@@ -9,17 +9,22 @@ use native.Mathlib.Numerals.{add-one}
 use lib.ListN.{length, get_or, drop, length-append, drop_of_length-le}
 use lib.Seq.{drop-cons}
 use borrow.Author.Tests.{lt-ltb, le-ltb}
+use denote.Ref.{Bor}
+use mathlib.Core.Logic.{◌⊎◌, inl, inr}
+use Rattle.std.proofs.Math.Seq.{take-nil}
+use Rattle.std.specs.Prelude.{Option, Some, None}
+use Rattle.std.specs.Option.{MatchOption, unwrap_or}
+use Rattle.std.specs.List.{filter, range_with_len, slice_range}
 use Rattle.rules.specs.declared.Flash.{Flash}
 use Rattle.rules.specs.declared.Flash.TheVariants.{Code, Data}
 use Rattle.rules.specs.declared.hex.HexRefusal.{HexRefusal}
 use Rattle.rules.specs.declared.hex.HexRefusal.TheVariants.{NoEnd, ManySteps, ManyBytes, ShortBuffer}
-use Rattle.rules.specs.declared.hex.HexRead.TheVariants as read
-use Rattle.rules.specs.declared.hex.HexMade.TheVariants.{Sheet, Refused}
+use Rattle.rules.specs.Answers as read
+use Rattle.rules.specs.Answers.{Sheet, Refused}
 use Rattle.rules.specs.First.{first}
-use Rattle.rules.specs.Chip.{Memory, small, blocks, block_size, flash_of, word_bytes, over}
+use Rattle.rules.specs.Chip.{Memory, small, blocks, block_size, flash_of, word_bytes, over, part_of}
 use Rattle.rules.specs.Sheet.{most_steps, entry_size}
 use Rattle.rules.specs.Hex.{no_cells, any_given, reading, hex_read, Named, named, block_cells, named_from, blocks_named, cell_byte, cell_bytes, body_of, entry_of, entries_of, bodies_of, steps_of, sheet_of, sheet_made, making_of, made_of, hex_made}
-use Rattle.chip_finder.specs.LentFlashes.{memory}
 use Rattle.chip_finder.proofs.Parts.{inside, length_part}
 use Rattle.text_out.specs.Out.{Out, add}
 use Rattle.text_out.proofs.Appended.{add_append, add_none}
@@ -56,8 +61,28 @@ module _ (m : Memory) (f : Flash) (i : ℕ) where
       sym (append_assoc (named_from m f i 1) (named_from m f (i + 1) (n - (i + 1))) later)
       ∙ ap (λ (x : List Named). x ++ later) (sym (from_here n h))
 
-  pub from_here_count : (n : ℕ) → i < n → length (named_from m f i (n - i)) ≡ length (named_from m f i 1) + length (named_from m f (i + 1) (n - (i + 1)))
-  from_here_count n h = ap (λ (x : List Named). length x) (from_here n h) ∙ length-append (named_from m f i 1) _
+-- so many are named as stand in the list of them
+pub named_length : (m : Memory) (f : Flash) (i n : ℕ) → length (filter (λ k. any_given (block_cells m f k)) (range_with_len i n)) ≡ length (named_from m f i n)
+unfolding named_from
+named_length m f i zero = refl
+named_length m f i (suc n) = go (any_given (block_cells m f i)) (named_length m f (i + 1) n)
+  where
+    later : List ℕ
+    later = filter (λ k. any_given (block_cells m f k)) (range_with_len (i + 1) n)
+
+    go : (x : Bool) → length later ≡ length (named_from m f (i + 1) n) → length (cond x (i ∷ later) later) ≡ length (cond x (named f i ∷ named_from m f (i + 1) n) (named_from m f (i + 1) n))
+    go true e = ap suc e
+    go false e = e
+
+-- a block, as the code takes it; none past the last
+module _ (size i : ℕ) (t : List ℕ) (past : length t < i * size + size → length t ≤ i * size) where
+  pub block_got : (o : Option (Bor (List ℕ))) (none : Bor (List ℕ)) → none.now ≡ []
+      → MatchOption o ((i * size + size < i * size) ⊎ (length t < i * size + size)) (λ x. (i * size ≤ i * size + size) × (i * size + size ≤ length t) × (x.now ≡ slice_range t (i * size) (i * size + size)) × (length x.now + i * size ≡ i * size + size))
+      → (unwrap_or o none).now ≡ part_of size i t
+  unfolding part_of
+  block_got None none z (inl h) = absurd (omega arith)
+  block_got None none z (inr h) = z ∙ rw (drop_of_length-le t (past h), take-nil size)
+  block_got (Some x) none z h = let e : i * size + size - i * size ≡ size = omega arith in h.2 ∙ rw e
 
 -- ---- the entries and the bodies of one block, and those behind it ----
 
@@ -182,8 +207,9 @@ module _ (m : Memory) (room : ℕ) (s buf : List ℕ) where
 
 -- ---- the call, by what the text was read to ----
 
-pub no_cells_lem : (code dat : List ℕ) → code ≡ no_cells.code → dat ≡ no_cells.«data» → memory code dat ≡ no_cells
-no_cells_lem code dat e f = rw (e, f)
+-- by what came of the text in cells of which none was given
+pub read_to : (text : List ℕ) (none k : Memory) (x r : read.HexRead) → none ≡ no_cells → reading x k ≡ hex_read text none → x ≡ r → hex_read text no_cells ≡ reading r k
+read_to text none k x r a e f = ap (hex_read text) (sym a) ∙ sym e ∙ ap (λ (y : read.HexRead). reading y k) f
 
 module _ (text buf : List ℕ) (k : Memory) where
   pub no_end : hex_read text no_cells ≡ reading read.On k → hex_made text buf ≡ record { made = Refused NoEnd; out = buf }

@@ -2,7 +2,7 @@
 use mathlib.Core.Path.{◌≡◌, sym, ap, ◌∙◌}
 use mathlib.Core.List.{List}
 use Prim.Native.Nat.{ℕ}
-use Rattle.rules.specs.declared.hex.HexMade.{HexMade}
+use Rattle.rules.specs.Answers.{HexMade}
 use Rattle.rules.specs.Hex.{Making}
 
 pub one_making : (due : Making) (a b : HexMade) (x y : List ℕ)

@@ -7,37 +7,22 @@ mod table;
 pub mod told;
 
 ghost use Rattle.std.specs.Prelude.{◌≡◌, ◌+◌, ◌*◌, ◌≤◌, length};
-ghost use Rattle.rules.specs.Hex.{no_cells, Making, making_of, blocks_named, sheet_of, sheet_made, hex_made};
-ghost use Rattle.chip_finder.specs.LentFlashes.{memory};
+ghost use Rattle.rules.specs.Hex.{Making, making_of, blocks_named, sheet_of, sheet_made, hex_made};
+ghost use Rattle.text_hex.specs.Gathered.{memory_of};
 ghost use Rattle.text_out.specs.Out.{out, add};
 
-use named::count_named;
+use named::Cells;
 use rules::Flash;
-use rules::hex::{HexMade, HexRead, HexRefusal};
-use text_cells::cells::NOT_GIVEN;
-use text_cells::{CODE_SIZE, DATA_SIZE};
-
-// Cells of which none is given.
-fn no_code() -> [u16; CODE_SIZE]
-    ensures { result ≡ no_cells.code }
-{
-    [NOT_GIVEN; CODE_SIZE]
-}
-
-fn no_data() -> [u16; DATA_SIZE]
-    ensures { result ≡ no_cells.«data» }
-{
-    [NOT_GIVEN; DATA_SIZE]
-}
+use rules::hex::{HexRead, HexRefusal};
 
 // The sheet of these cells, which name `n` blocks, into a buffer: count, table, bodies.
-fn put_sheet<'a>(buf: &mut [u8], n: u32, code: &'a [u16], data: &'a [u16]) -> usize
-    requires { (length code.now ≡ 32768) × (length «data».now ≡ 2048) × (n ≡ length (blocks_named (memory code.now «data».now))) × (n ≤ 24) }
-    ensures { out result buf.new ≡ add (sheet_of (memory code.now «data».now)) (out 0 buf.old) }
+fn put_sheet(buf: &mut [u8], n: u32, cells: &Cells) -> usize
+    requires { (n ≡ length (blocks_named (memory_of cells.now))) × (n ≤ 24) }
+    ensures { out result buf.new ≡ add (sheet_of (memory_of cells.now)) (out 0 buf.old) }
 {
     let counted = table::put_count(buf, 0, 3 * n);
-    let tabled = table::put_table(buf, counted, 2 + 36 * n, code, data);
-    bodies::put_bodies(buf, tabled, code, data)
+    let tabled = table::put_table(buf, counted, 2 + 36 * n, cells);
+    bodies::put_bodies(buf, tabled, cells)
 }
 
 // How many bytes a sheet of so many code blocks and data blocks has.
@@ -49,42 +34,35 @@ fn sheet_size(c: usize, d: usize) -> usize
 }
 
 // The sheet of these cells, if it is not too large.
-fn make_sheet<'a>(code: &'a [u16], data: &'a [u16], buf: &mut [u8]) -> HexMade
-    requires { (length code.now ≡ 32768) × (length «data».now ≡ 2048) }
-    ensures { ◌≡◌ {A = Making} (record { made = result; out = buf.new }) (making_of (sheet_made (memory code.now «data».now) (length buf.old)) (sheet_of (memory code.now «data».now)) buf.old) }
+fn make_sheet(cells: &Cells, buf: &mut [u8]) -> Result<usize, HexRefusal>
+    ensures { ◌≡◌ {A = Making} (record { made = result; out = buf.new }) (making_of (sheet_made (memory_of cells.now) (length buf.old)) (sheet_of (memory_of cells.now)) buf.old) }
 {
-    let c = count_named(Flash::Code, code, data);
-    let d = count_named(Flash::Data, code, data);
+    // asked for their lengths, the cells are known to be as many as their type says
+    let _code = cells.code.len();
+    let _data = cells.data.len();
+    let c = cells.count_named(Flash::Code);
+    let d = cells.count_named(Flash::Data);
     if 3 * (c + d) > 64 {
-        return HexMade::Refused(HexRefusal::ManySteps);
+        return Err(HexRefusal::ManySteps);
     }
     let size = sheet_size(c, d);
     if size > 65536 {
-        return HexMade::Refused(HexRefusal::ManyBytes);
+        return Err(HexRefusal::ManyBytes);
     }
     if buf.len() < size {
-        return HexMade::Refused(HexRefusal::ShortBuffer);
+        return Err(HexRefusal::ShortBuffer);
     }
-    put_sheet(buf, (c + d) as u32, code, data);
-    HexMade::Sheet(size)
+    put_sheet(buf, (c + d) as u32, cells);
+    Ok(size)
 }
 
 // A HEX text made into a sheet in the first bytes of a buffer; a refusal writes nothing.
-pub fn make(text: &[u8], buf: &mut [u8]) -> HexMade
+pub fn make(text: &[u8], buf: &mut [u8]) -> Result<usize, HexRefusal>
     ensures { ◌≡◌ {A = Making} (record { made = result; out = buf.new }) (hex_made text.now buf.old) }
 {
-    let mut code = no_code();
-    let mut data = no_data();
-    let read = text_cells::read_cells(text, &mut code, &mut data);
-    match read {
-        HexRead::On => {
-            return HexMade::Refused(HexRefusal::NoEnd);
-        }
-        HexRead::Refused(h) => {
-            return HexMade::Refused(h);
-        }
-        HexRead::Ended => {
-            return make_sheet(&code, &data, buf);
-        }
+    let mut cells = Cells::none();
+    match text_cells::read_cells(text, &mut cells.code, &mut cells.data)? {
+        HexRead::On => Err(HexRefusal::NoEnd),
+        HexRead::Ended => make_sheet(&cells, buf),
     }
 }

@@ -11,6 +11,7 @@ pub fn room() -> [u8; 1048577]
     [0; 1048577]
 }
 
+// stays beside `room`: each is its one line, and one function of both is no plainer.
 // Room for the bytes that the longest script can say, at three bytes of text each.
 pub fn room_for_bytes() -> [u8; 349525]
     ensures { 349525 ≡ length result }
@@ -18,11 +19,11 @@ pub fn room_for_bytes() -> [u8; 349525]
     [0; 349525]
 }
 
-// Says which line ended the script, if one did; 0 stands for none.
-pub fn bad_line(number: usize) {
-    if number == 0 {
+// Says which line ended the script, if one did.
+pub fn bad_line(number: Option<usize>) {
+    let Some(number) = number else {
         return;
-    }
+    };
     io::write_all(1, b"bad line ");
     io::print_decimal(1, number as u64);
     io::write_all(1, b"\n");

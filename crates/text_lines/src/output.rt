@@ -6,6 +6,7 @@ ghost use Rattle.text_lines.specs.Rows.{byte_text, word_text, row_text};
 use text_out::{put, put_hex2, put_hex4};
 
 // A space and two digits.
+#[tactic(auto, using(crate::proofs::Spaced::spaced), unfolding(crate::specs::Rows::byte_text))]
 pub fn byte(line: &mut [u8], at: usize, byte: u8) -> usize
     ensures { out result line.new ≡ add (byte_text byte) (out at line.old) }
 {
@@ -14,6 +15,7 @@ pub fn byte(line: &mut [u8], at: usize, byte: u8) -> usize
 }
 
 // A space and four digits.
+#[tactic(auto, using(crate::proofs::Spaced::spaced), unfolding(crate::specs::Rows::word_text))]
 pub fn word(line: &mut [u8], at: usize, word: u16) -> usize
     ensures { out result line.new ≡ add (word_text word) (out at line.old) }
 {
@@ -22,12 +24,13 @@ pub fn word(line: &mut [u8], at: usize, word: u16) -> usize
 }
 
 // A space and two digits for each byte.
+#[tactic(auto, using(crate::proofs::Spaced::row_more, crate::proofs::Spaced::row_end))]
 pub fn row(line: &mut [u8], from: usize, bytes: &[u8]) -> usize
     ensures { out result line.new ≡ add (row_text bytes.now) (out from line.old) }
 {
     let mut at = from;
-    for k in 0..bytes.len() {
-        at = byte(line, at, bytes[k]);
+    for &b in bytes {
+        at = byte(line, at, b);
     }
     at
 }

@@ -6,7 +6,7 @@ use mathlib.Core.List.{List, [], ◌∷◌, ◌++◌}
 use native.Mathlib.Omega.{arith}
 use native.Mathlib.Numerals.{add-one}
 use lib.Dec.{ltb}
-use lib.ListN.{length, set, take, drop, get_or, length-set}
+use lib.ListN.{length, set, take, drop, get_or, length-set, drop_of_length-le}
 use lib.Seq.{drop-cons, sets, sets-eq, take_at, length-take-le}
 use borrow.Author.Tests.{lt-ltb, le-ltb, ltb-true}
 use Rattle.rules.specs.Chip.{over}
@@ -37,6 +37,16 @@ add_none o = refl
 -- the first of what is left of a list
 pub drop_one : (xs : List ℕ) (i : ℕ) → i < length xs → drop i xs ≡ get_or xs i 0 ∷ drop (i + 1) xs
 drop_one xs i h = rw add-one (drop-cons xs i 0 h)
+
+-- what is left of a text, a byte at a time
+module _ (t : List ℕ) (i : ℕ) (o : Out) where
+  pub one_more : i < length t → add (drop i t) o ≡ add (drop (i + 1) t) (add (get_or t i 0 ∷ []) o)
+  unfolding add
+  one_more h = rw (drop_one t i h)
+
+  pub none_left : length t ≤ i → add (drop i t) o ≡ o
+  unfolding add
+  none_left h = rw (drop_of_length-le t h)
 
 -- ---- a buffer filled from its first byte on ----
 

@@ -1,10 +1,10 @@
--- Laws of decimal numbers: below ten, and from ten on; a larger number has no fewer digits. Assumes nothing.
+-- Laws of decimal numbers: below ten, and from ten on; a larger number has no fewer digits. Hex digits by bytes. Assumes nothing.
 use mathlib.Core.Path.{◌≡◌, refl, ap}
 use Prim.Native.Nat.{ℕ, zero, suc, ◌+◌, ◌/◌, ◌%◌, ◌<◌, ◌≤◌}
 use mathlib.Core.List.{List, [], ◌∷◌, ◌++◌}
 use native.Mathlib.Omega.{arith}
 use lib.ListN.{length, length-append}
-use Rattle.rules.specs.Text.{digits, decimal}
+use Rattle.rules.specs.Text.{digits, decimal, hex2, hex4}
 
 -- a number with one digit more
 with_digit : (n : ℕ) {a b : List ℕ} → a ≡ b → a ++ ((n % 10 + 48) ∷ []) ≡ b ++ ((n % 10 + 48) ∷ [])
@@ -62,3 +62,11 @@ pub decimal_longer : (n m : ℕ) → 1 ≤ m → n ≤ m → length (decimal n) 
 decimal_longer zero m g h = rw (decimal_one 0 (omega arith)) (decimal_some m)
 decimal_longer (suc n) m g h =
     rw (← decimal_bound m (suc n) (omega arith) h, ← decimal_bound m m g (omega arith)) (digits_longer m (suc n) m h)
+
+-- four hex digits are those of the high byte and of the low byte
+pub hex4_halves : (n : ℕ) → hex4 n ≡ hex2 (n / 256) ++ hex2 (n % 256)
+hex4_halves n =
+    let a : n / 256 / 16 ≡ n / 4096 = omega arith in
+    let b : n % 256 / 16 % 16 ≡ n / 16 % 16 = omega arith in
+    let d : n % 256 % 16 ≡ n % 16 = omega arith in
+    rw (a, b, d)

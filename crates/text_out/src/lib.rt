@@ -6,6 +6,7 @@ ghost use Rattle.rules.specs.Text.{decimal, hex_digit, hex2, hex4};
 ghost use Rattle.text_out.specs.Out.{out, add};
 
 // A byte, where there is room; else nothing.
+#[tactic(auto, using(crate::proofs::Appended::byte_fits, crate::proofs::Appended::byte_full))]
 pub fn put(buf: &mut [u8], at: usize, byte: u8) -> usize
     ensures { out result buf.new ≡ add (byte ∷ []) (out at buf.old) }
 {
@@ -17,17 +18,19 @@ pub fn put(buf: &mut [u8], at: usize, byte: u8) -> usize
 }
 
 // The bytes of a text.
+#[tactic(auto, using(crate::proofs::Appended::one_more, crate::proofs::Appended::none_left))]
 pub fn put_bytes(buf: &mut [u8], at: usize, text: &[u8]) -> usize
     ensures { out result buf.new ≡ add text.now (out at buf.old) }
 {
     let mut next = at;
-    for i in 0..text.len() {
-        next = put(buf, next, text[i]);
+    for &byte in text {
+        next = put(buf, next, byte);
     }
     next
 }
 
 // A number in decimal.
+#[tactic(auto, using(crate::proofs::Appended::add_append, crate::proofs::Decimal::decimal_one, crate::proofs::Decimal::decimal_more))]
 pub fn put_decimal(buf: &mut [u8], at: usize, n: usize) -> usize
     ensures { out result buf.new ≡ add (decimal n) (out at buf.old) }
 {
@@ -60,11 +63,6 @@ pub fn put_hex2(buf: &mut [u8], at: usize, n: u8) -> usize
 pub fn put_hex4(buf: &mut [u8], at: usize, n: u16) -> usize
     ensures { out result buf.new ≡ add (hex4 n) (out at buf.old) }
 {
-    let text = [
-        hex_digit(n / 4096),
-        hex_digit(n / 256),
-        hex_digit(n / 16),
-        hex_digit(n),
-    ];
-    put_bytes(buf, at, &text)
+    let next = put_hex2(buf, at, (n / 256) as u8);
+    put_hex2(buf, next, (n % 256) as u8)
 }

@@ -10,8 +10,7 @@ use Rattle.rules.specs.declared.Flash.TheVariants.{Code, Data}
 use Rattle.rules.specs.declared.Options.{Options}
 use Rattle.rules.specs.declared.Phase.TheVariants.{Command}
 use Rattle.rules.specs.declared.Task.TheVariants.{Idle}
-use Rattle.rules.specs.declared.Verdict.{Verdict}
-use Rattle.rules.specs.declared.Verdict.TheVariants.{Accepted, Refused}
+use Rattle.rules.specs.Answers.{Verdict, Accepted, Refused}
 use Rattle.rules.specs.Chip.{small, known, flash_size, blank_byte, fresh_memory, ident_of, ident_size}
 use Rattle.rules.specs.Numbers.{call_number}
 use Rattle.rules.specs.Options.{IFPR, fresh_options}

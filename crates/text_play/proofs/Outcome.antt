@@ -8,7 +8,7 @@ use Rattle.rules.specs.Player.{report_of}
 use Rattle.rules.specs.Run.{Joined}
 use Rattle.rules.specs.Text.{play_text}
 use Rattle.text_out.specs.Out.{Filled}
-use Rattle.joined.specs.declared.Answer.{Answer}
+use Rattle.joined.specs.Answers.{Answer}
 use Rattle.joined.specs.Plays.{SheetOutcome, sheet_outcome}
 use Rattle.text_play.specs.Told.{answer_text, outcome_text}
 

@@ -5,8 +5,7 @@ use Rattle.rules.specs.StandIn.{State}
 use Rattle.rules.specs.Player.{report_of}
 use Rattle.rules.specs.Run.{joined_at_start}
 use Rattle.rules.specs.Text.{refused_line, busy_line, play_text}
-use Rattle.joined.specs.declared.Answer.{Answer}
-use Rattle.joined.specs.declared.Answer.TheVariants.{Refused, NotAtStep, Busy, Played}
+use Rattle.joined.specs.Answers.{Answer, Refused, NotAtStep, Busy, Played}
 use Rattle.joined.specs.Plays.{SheetOutcome, sheet_played}
 
 -- a new player and this stand-in, with buffers as small as they may be, and lists of 64 zeros

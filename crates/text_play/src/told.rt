@@ -6,7 +6,7 @@ ghost use Rattle.standin_engine.specs.View.{view};
 ghost use Rattle.text_out.specs.Out.{Filled};
 ghost use Rattle.text_play.specs.Told.{played, answer_text, outcome_text};
 
-use joined::Answer;
+use joined::NotPlayed;
 use joined::whole::play;
 use player::report::report;
 use rules::{Chip, Report};
@@ -21,23 +21,24 @@ pub struct Told {
     pub size: usize,
 }
 
+#[tactic(auto, unfolding(crate::specs::Told::answer_text))]
 fn put_outcome(
     text: &mut [u8],
     chip: Chip,
     sheet: &[u8],
-    answer: Answer,
+    answer: Result<(), NotPlayed>,
     report: Report,
     sums: &[u16],
     each: &[usize; 64],
 ) -> usize
     ensures { Filled (answer_text answer (play_text chip sheet.now report sums.now each.now)) text.old result text.new }
 {
-    let list: &[usize] = each;
-    match answer {
-        Answer::Refused(refusal) => put_refused(text, refusal),
-        Answer::NotAtStep => put_busy(text),
-        Answer::Busy => put_busy(text),
-        Answer::Played => put_play(text, chip, sheet, report, sums, list),
+    let Err(why) = answer else {
+        return put_play(text, chip, sheet, report, sums, each);
+    };
+    match why {
+        NotPlayed::Refused(refusal) => put_refused(text, refusal),
+        NotPlayed::NotAtStep | NotPlayed::Busy => put_busy(text),
     }
 }
 

@@ -1,3 +1,4 @@
+pub mod Digits
 pub mod Parts
 pub mod Lines
 pub mod Units

@@ -1,31 +1,51 @@
 -- Laws of the lines of a text: the look for a line's end, and the lines from a place on. Assumes nothing.
-use mathlib.Core.Path.{◌≡◌, refl, ◌∙◌, ap}
+use mathlib.Core.Path.{◌≡◌, refl, sym, ◌∙◌, ap}
 use mathlib.Core.Bool.{Bool, true, false, cond}
 use mathlib.Core.List.{List, [], ◌∷◌}
 use Prim.Native.Nat.{ℕ, suc, ◌+◌, ◌-◌, ◌<◌, ◌≤◌}
 use native.Mathlib.Nat.{not-suc-le-zero}
-use native.Mathlib.Numerals.{add-one}
 use native.Mathlib.Omega.{arith}
-use lib.Dec.{eqb}
-use lib.ListN.{length, get_or, take, drop, length-drop, drop_of_length-le}
-use lib.Seq.{drop-cons, drop-drop}
-use borrow.Author.Tests.{eq-eqb, ne_eqb}
+use lib.Dec.{eqb, ltb}
+use lib.ListN.{length, take, drop, length-drop}
+use lib.Seq.{drop-drop}
+use borrow.Author.Tests.{ltb-false}
+use Rattle.std.specs.Prelude.{Option, Some, None}
+use Rattle.std.specs.Option.{unwrap_or}
+use Rattle.std.specs.List.{position_or_len}
+use Rattle.std.proofs.lemmas.List.Recursion.{is_position_or_len}
 use Rattle.rules.specs.Lines.{Lines, line, onto, lines_of, first_line}
 
--- ---- by an index: a line's end ----
+-- ---- a line's end, as the first place of an LF ----
 
-module _ (t : List ℕ) (i : ℕ) where
-  pub first_here : get_or t i 0 ≡ 10 → i < length t → length (first_line (drop i t)) ≡ 0
-  unfolding first_line
-  first_here e h = rw (drop-cons t i 0) (simp (eq-eqb _ _ e))
+pub first_line_place : (t : List ℕ) → length (first_line t) ≡ position_or_len (λ b. eqb b 10) t
+unfolding first_line
+first_line_place t = is_position_or_len (λ l. length (first_line l)) (λ b. eqb b 10) refl (λ b l. go b (eqb b 10) (first_line l)) t
+  where
+    go : (b : ℕ) (x : Bool) (l : List ℕ) → length (cond x [] (b ∷ l)) ≡ cond x 0 (1 + length l)
+    go b true l = refl
+    go b false l = omega arith
 
-  pub first_later : (get_or t i 0 ≡ 10 → ⊥) → i < length t → length (first_line (drop i t)) ≡ suc (length (first_line (drop (i + 1) t)))
-  unfolding first_line
-  first_later n h = rw (drop-cons t i 0, add-one) (simp (ne_eqb _ _ n))
+first_line_short : (t : List ℕ) → length (first_line t) ≤ length t
+unfolding first_line
+first_line_short [] = omega arith
+first_line_short (b ∷ t) = go (eqb b 10) (first_line_short t)
+  where
+    go : (x : Bool) → length (first_line t) ≤ length t → length (cond x [] (b ∷ first_line t)) ≤ suc (length t)
+    go true h = omega arith
+    go false h = omega arith
 
-  pub first_none : length t ≤ i → length (first_line (drop i t)) ≡ 0
-  unfolding first_line
-  first_none h = rw (drop_of_length-le t h)
+-- the place that was found, or the end
+pub first_or_end : (t : List ℕ) (r : Option ℕ)
+    → r ≡ cond (ltb (position_or_len (λ b. eqb b 10) t) (length t)) (Some (position_or_len (λ b. eqb b 10) t)) None
+    → unwrap_or r (length t) ≡ length (first_line t)
+first_or_end t r e = ap (λ (x : Option ℕ). unwrap_or x (length t)) e ∙ go (ltb p (length t)) refl ∙ sym (first_line_place t)
+  where
+    p : ℕ
+    p = position_or_len (λ b. eqb b 10) t
+
+    go : (x : Bool) → ltb p (length t) ≡ x → unwrap_or (cond x (Some p) None) (length t) ≡ p
+    go true q = refl
+    go false q = let h = ltb-false _ _ q in omega (arith, h, first_line_short t, first_line_place t)
 
 -- ---- the first line of a text, and its lines ----
 

@@ -8,7 +8,7 @@ use borrow.Author.Tests.{eq-eqb, ne_eqb}
 use Rattle.rules.specs.Chip.{small, large, same}
 use Rattle.rules.specs.Text.{ascii}
 use Rattle.rules.specs.Lines.{between}
-use Rattle.text_read.specs.declared.chips.Named.TheVariants.{Is, None}
+use Rattle.text_read.specs.Answers.{Is, NoChip}
 use Rattle.text_read.specs.Numerals.{decimal_of}
 use Rattle.text_read.specs.Chips.{space_in, counts_of, counts_named, chip_named}
 
@@ -35,12 +35,15 @@ module _ (t : List ℕ) where
     unfolding chip_named
     names_large e = rw (a, e)
 
-    module _ (b : same t (ascii "large") ≡ false) where
-      pub names_none : (get_or t (space_in t) 0 ≡ 0x20 → ⊥) → chip_named t ≡ None
-      unfolding chip_named counts_named
-      names_none n = rw (a, b) (simp (ne_eqb (get_or t (space_in t) 0) 0x20 n))
+    pub names_counts : same t (ascii "large") ≡ false → chip_named t ≡ counts_named t
+    unfolding chip_named
+    names_counts b = rw (a, b)
 
-      pub names_counts : get_or t (space_in t) 0 ≡ 0x20
-          → chip_named t ≡ counts_of (decimal_of 255 (between 0 (space_in t) t)) (decimal_of 255 (drop (space_in t + 1) t))
-      unfolding chip_named counts_named
-      names_counts e = rw (a, b) (simp (eq-eqb (get_or t (space_in t) 0) 0x20 e))
+  pub counts_none : (get_or t (space_in t) 0 ≡ 0x20 → ⊥) → counts_named t ≡ NoChip
+  unfolding counts_named
+  counts_none n = simp (ne_eqb (get_or t (space_in t) 0) 0x20 n)
+
+  pub counts_some : get_or t (space_in t) 0 ≡ 0x20
+      → counts_named t ≡ counts_of (decimal_of 255 (between 0 (space_in t) t)) (decimal_of 255 (drop (space_in t + 1) t))
+  unfolding counts_named
+  counts_some e = simp (eq-eqb (get_or t (space_in t) 0) 0x20 e)

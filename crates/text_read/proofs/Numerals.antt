@@ -8,7 +8,7 @@ use lib.ListN.{length, get_or, drop, drop_of_length-le}
 use lib.Seq.{drop-cons}
 use borrow.Author.Tests.{eq-eqb, ne_eqb, lt-ltb, le-ltb, le-leb, lt-leb}
 use Rattle.rules.specs.Lines.{digit}
-use Rattle.text_read.specs.declared.number.Number.TheVariants.{Value, Bad}
+use Rattle.text_read.specs.Answers.{Value, Bad}
 use Rattle.text_read.specs.Numerals.{numeral, decimal_of, hex_of}
 
 -- ---- the digits from place `i` on, behind a number that was read ----

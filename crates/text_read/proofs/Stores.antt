@@ -1,12 +1,11 @@
 -- Laws of bytes stored in a buffer, and of the sheet in hand. Assumes nothing.
 use mathlib.Core.Path.{◌≡◌}
 use mathlib.Core.Bool.{true, false}
-use mathlib.Core.List.{List}
+use mathlib.Core.List.{List, ◌++◌, append_assoc}
 use Prim.Native.Nat.{ℕ, ◌+◌, ◌<◌, ◌≤◌}
-use native.Mathlib.Numerals.{add-one}
 use native.Mathlib.Omega.{arith}
-use lib.ListN.{length, get_or, set, drop}
-use lib.Seq.{paste, paste-suc, take-length}
+use lib.ListN.{length, take, drop}
+use lib.Seq.{drop-drop}
 use borrow.Author.Tests.{le-leb, lt-leb}
 use Rattle.rules.specs.Text.{ascii}
 use Rattle.rules.specs.Lines.{starts_with, row_bytes}
@@ -19,14 +18,11 @@ module _ (at : ℕ) (bs b : List ℕ) where
   unfolding stored
   no_room h = simp (lt-leb _ _ h)
 
-  pub with_room : (n : ℕ) → n ≡ length bs → at + n ≤ length b → stored at bs b ≡ record { end = at + n; bytes = paste b at bs n }
+  pub with_room : (n : ℕ) → n ≡ length bs → at + n ≤ length b → stored at bs b ≡ record { end = at + n; bytes = take at b ++ (bs ++ drop n (drop at b)) }
   unfolding stored
   with_room n e h =
       let g : at + length bs ≤ length b = omega arith in
-      rw (e, take-length bs) (simp (le-leb _ _ g))
-
-  pub one_stored : (k : ℕ) → at + k < length b → k < length bs → set (paste b at bs k) (at + k) (get_or bs k 0) ≡ paste b at bs (k + 1)
-  one_stored k h g = rw (add-one k) (paste-suc b at bs k 0 h g)
+      rw (e, drop-drop, ← append_assoc (take at b) bs (drop (at + length bs) b)) (simp (le-leb _ _ g))
 
 module _ (h : InHand) (l b : List ℕ) where
   pub another_line : starts_with (ascii "sheet") l ≡ false → after_line h l b ≡ record { hand = record { growing = false; size = h.size }; bytes = b }

@@ -1,46 +1,14 @@
 -- Laws of pairs and of rows of any unit, by an index. Assumes nothing.
 use mathlib.Core.Path.{◌≡◌, refl, ap, ◌∙◌}
 use mathlib.Core.Bool.{true, false}
-use mathlib.Core.List.{List, [], ◌∷◌}
+use mathlib.Core.List.{List}
 use Prim.Native.Nat.{ℕ, zero, suc, ◌+◌, ◌-◌, ◌*◌, ◌%◌, ◌<◌, ◌≤◌}
 use native.Mathlib.Nat.{not-suc-le-zero, zero-mul, suc-mul, add_comm}
-use native.Mathlib.Numerals.{add-one}
 use native.Mathlib.Omega.{arith}
-use lib.ListN.{length, get_or, drop, length-drop, drop_of_length-le, get_or-eq_default}
-use lib.Seq.{drop-cons, drop-drop}
-use borrow.Author.Tests.{eq-eqb, ne_eqb, lt-ltb, le-ltb}
-use Rattle.rules.specs.Lines.{two_digits, pair, spaced_pair, all_good, values}
-
--- ---- pairs ----
-
-module _ (t : List ℕ) (i : ℕ) where
-  pub pair_none : length t ≤ i + 1 → pair (drop i t) ≡ 256
-  unfolding pair
-  pair_none h = short (drop i t) (omega (arith, length-drop i t))
-    where
-      short : (r : List ℕ) → length r ≤ 1 → pair r ≡ 256
-      short [] g = refl
-      short (x ∷ []) g = refl
-      short (x ∷ y ∷ r) g = absurd (omega arith)
-
-  pub pair_here : i + 1 < length t → pair (drop i t) ≡ two_digits (get_or t i 0) (get_or t (i + 1) 0)
-  unfolding pair
-  pair_here h =
-      let h' : i < length t = omega arith in
-      let h'' : suc i < length t = omega arith in
-      rw (drop-cons t i 0, drop-cons t (suc i) 0, add-one)
-
-  pub spaced_none : length t ≤ i → spaced_pair (drop i t) ≡ 256
-  unfolding spaced_pair
-  spaced_none h = rw (drop_of_length-le t h)
-
-  pub spaced_bad : i < length t → (get_or t i 0 ≡ 0x20 → ⊥) → spaced_pair (drop i t) ≡ 256
-  unfolding spaced_pair
-  spaced_bad h n = rw (drop-cons t i 0) (simp (ne_eqb _ _ n))
-
-  pub spaced_here : i < length t → get_or t i 0 ≡ 0x20 → spaced_pair (drop i t) ≡ pair (drop (i + 1) t)
-  unfolding spaced_pair
-  spaced_here h e = rw (drop-cons t i 0, add-one) (simp (eq-eqb _ _ e))
+use lib.ListN.{length, get_or, drop, get_or-eq_default}
+use lib.Seq.{drop-drop}
+use borrow.Author.Tests.{lt-ltb, le-ltb}
+use Rattle.rules.specs.Lines.{all_good, values}
 
 -- ---- rows ----
 

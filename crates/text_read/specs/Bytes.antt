@@ -1,6 +1,14 @@
--- A row of at least one byte, and bytes stored in a buffer. Assumes nothing.
-use Rattle.std.specs.Prelude.{ℕ, ◌+◌, Bool, false, cond, List, ◌++◌, eqb, leb, length, take, drop}
-use Rattle.rules.specs.Lines.{is_row}
+-- The value of digits, if they have one; a row of at least one byte, and bytes stored in a buffer. Assumes nothing.
+use Rattle.std.specs.Prelude.{ℕ, ◌+◌, ◌/◌, ◌%◌, Bool, false, cond, Option, Some, None, List, ◌++◌, eqb, ltb, leb, length, take, drop}
+use Rattle.rules.specs.Lines.{all_good, is_row}
+
+-- a value, where a number from a bound on stands for none
+unfoldable pub below : ℕ → ℕ → Option ℕ
+below bound n = cond (ltb n bound) (Some n) None
+
+-- nothing but units of a size
+abbrev pub is_good : (List ℕ → ℕ) → ℕ → List ℕ → Bool
+is_good unit size r = cond (eqb (length r % size) 0) (all_good unit size (length r / size) r) false
 
 -- ` HH HH ..`, at least one time
 unfoldable pub is_bytes : List ℕ → Bool

@@ -1,8 +1,7 @@
 -- Numbers of digits, most significant first. Assumes nothing.
 use Rattle.std.specs.Prelude.{ℕ, ◌+◌, ◌*◌, cond, ◌&&◌, List, [], ◌∷◌, eqb, ltb, leb, length, get_or}
 use Rattle.rules.specs.Lines.{digit}
-use Rattle.text_read.specs.declared.number.Number.{Number}
-use Rattle.text_read.specs.declared.number.Number.TheVariants.{Value, Bad}
+use Rattle.text_read.specs.Answers.{Number, Value, Bad}
 
 -- digits of a base behind a number that was read: each makes a number of one digit more, which must be no more than `most`
 unfoldable pub numeral : ℕ → ℕ → ℕ → List ℕ → Number

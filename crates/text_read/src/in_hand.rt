@@ -7,6 +7,7 @@ ghost use Rattle.text_read.specs.Sheets.{no_sheet, beginning, Held, after_line};
 use crate::{part, rows};
 
 // How many bytes it has. It grows from its first line up to a line of another kind.
+// stays: no flag with its value, since the size is kept when the sheet no longer grows (`after_line`).
 #[derive(Clone, Copy)]
 pub struct InHand {
     pub growing: bool,

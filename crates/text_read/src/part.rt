@@ -6,31 +6,20 @@ ghost use Rattle.rules.specs.Lines.{between, starts_with};
 pub fn between<'a>(s: &'a [u8], from: usize, end: usize) -> &'a [u8]
     ensures { result.now ≡ between from end s.now }
 {
-    if end > s.len() {
-        return &s[0..0];
-    }
-    if from > end {
-        return &s[0..0];
-    }
-    &s[from..end]
+    s.get(from..end).unwrap_or(&[])
 }
 
 // The bytes from `from` on.
 pub fn rest<'a>(s: &'a [u8], from: usize) -> &'a [u8]
     ensures { result.now ≡ drop from s.now }
 {
-    if from > s.len() {
-        return &s[0..0];
-    }
-    &s[from..]
+    s.get(from..).unwrap_or(&[])
 }
 
 // Whether the text begins with those bytes.
+#[tactic(auto, using(crate::proofs::Parts::starts_as))]
 pub fn starts_with(text: &[u8], s: &[u8]) -> bool
     ensures { result ≡ starts_with s.now text.now }
 {
-    if text.len() < s.len() {
-        return false;
-    }
-    octets::same_bytes(&text[0..s.len()], s)
+    text.starts_with(s)
 }

@@ -1,7 +1,6 @@
 -- Laws of a line by itself: one for each outcome; and how long a record of bytes is. Assumes nothing.
 use Rattle.std.proofs.Common.{◌≡◌, ℕ, ◌+◌, ◌%◌, ◌<◌, Bool, true, false, cond, not, eqb, leb, List, length, get_or, drop, sym, refl, ap, ◌∙◌, arith, length-drop, length-take, get_or-drop, get_or-take, eq-eqb, ne_eqb, eqb-true}
-use Rattle.rules.specs.declared.hex.HexLine.{HexLine}
-use Rattle.rules.specs.declared.hex.HexLine.TheVariants.{Bytes, End, Upper, BadForm, WrongSum, OtherType}
+use Rattle.rules.specs.HexLines.{HexLine, Bytes, End, Upper, BadForm, WrongSum, OtherType}
 use Rattle.rules.specs.First.{first}
 use Rattle.rules.specs.Chip.{byte_at, total}
 use Rattle.rules.specs.Lines.{is_pairs, pair_bytes}

@@ -13,8 +13,9 @@ use Rattle.rules.specs.Chip.{Memory, small, known, flash_size, blank_byte}
 use Rattle.rules.specs.Lines.{lines_of, first_line}
 use Rattle.rules.specs.Options.{fresh_options}
 use Rattle.text_read.proofs.Lines.{next_line, last_line}
-use Rattle.text_script.specs.declared.chip_file.ChipFile.TheVariants.{States, BadLine}
-use Rattle.text_script.specs.declared.script_line.Line.{Line}
+use Rattle.std.specs.Prelude.{Some}
+use Rattle.text_script.specs.declared.script_line.Line.{Line as Said}
+use Rattle.text_script.specs.Answers.{States, BadLine}
 use Rattle.text_script.specs.Script.{line_of}
 use Rattle.text_script.specs.ChipFiles.{Stating, stating, lent_of, fresh_in, is_stating, stated_by, said_in, FileRead, file_read, lines_state, file_states}
 
@@ -42,8 +43,8 @@ pub fresh_as : (chip : Chip) (o : Options) (x y : List ℕ) (m : Memory) → o �
 fresh_as chip o x y m e f g = rw (e, f, g)
 
 -- a line that is known says what it says
-pub stated_as : (a k : Line) → a ≡ k → (t : List ℕ) (s : Stating) → stated_by k t s ≡ stated_by a t s
-stated_as a k e t s = ap (λ (x : Line). stated_by x t s) (sym e)
+pub stated_as : (a k : Said) → a ≡ k → (t : List ℕ) (s : Stating) → stated_by (Some k) t s ≡ stated_by (Some a) t s
+stated_as a k e t s = ap (λ (x : Said). stated_by (Some x) t s) (sym e)
 
 pub said_as : (a c x y : ℕ) (t : List ℕ) → a ≡ x → c ≡ y → line_of a c t ≡ line_of x y t
 said_as a c x y t e f = rw (e, f)

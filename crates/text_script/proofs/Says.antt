@@ -1,6 +1,6 @@
 -- Laws of what a line says, an outcome each, and of bytes stored in a flash. Assumes nothing.
-use mathlib.Core.Path.{◌≡◌}
-use mathlib.Core.Bool.{true, false}
+use mathlib.Core.Path.{◌≡◌, refl}
+use mathlib.Core.Bool.{Bool, true, false, cond}
 use mathlib.Core.List.{List}
 use Prim.Native.Nat.{ℕ, ◌+◌, ◌-◌, ◌<◌, ◌≤◌}
 use lib.ListN.{length, get_or, drop}
@@ -11,12 +11,15 @@ use Rattle.rules.specs.Chip.{small, same, block, first_byte}
 use Rattle.rules.specs.Text.{ascii}
 use Rattle.rules.specs.Lines.{between, starts_with, is_row, row_bytes}
 use Rattle.chip_finder.specs.LentFlashes.{memory}
-use Rattle.text_read.specs.declared.number.Number.TheVariants as number
+use Rattle.text_read.specs.Answers as number
 use Rattle.text_read.specs.Bytes.{is_bytes, Stored, stored}
 use Rattle.text_read.specs.Numerals.{hex_of}
 use Rattle.text_read.specs.Chips.{chip_named}
-use Rattle.text_script.specs.declared.script_line.Line.{Line}
-use Rattle.text_script.specs.declared.script_line.Line.TheVariants.{Bad, OfChip, Store, PowerOn, Bytes, Frame, Show, Sheet, Play}
+use Rattle.std.specs.Prelude.{Some, None}
+use Rattle.std.specs.Bool.{then_some}
+use Rattle.text_script.specs.declared.script_line.Line.{Line as Said}
+use Rattle.text_script.specs.declared.script_line.Line.TheVariants as said
+use Rattle.text_script.specs.Answers.{Bad, OfChip, Store, PowerOn, Bytes, Show, Sheet, Play}
 use Rattle.text_script.specs.Script.{place_of, placed, store_of, field_of, with_options, options_of, chip_of, handed_of, word_of, row_line, line_of}
 use Rattle.text_script.specs.Chips.{stored_in}
 
@@ -109,23 +112,18 @@ module _ (t : List ℕ) where
 
 -- ---- a row ----
 
-module _ (r : List ℕ) where
-  pub handed_yes : is_row r ≡ true → handed_of r ≡ Frame
-  unfolding handed_of
-  handed_yes e = rw e
+chosen : {A : Type 0} (b : Bool) (x : A) → then_some b x ≡ cond b (Some x) None
+chosen true x = refl
+chosen false x = refl
 
-  pub handed_no : is_row r ≡ false → handed_of r ≡ Bad
-  unfolding handed_of
-  handed_no e = rw e
+-- a good row says so, and another is bad
+pub handed_said : (r : List ℕ) → then_some (is_row r) said.Frame ≡ handed_of r
+unfolding handed_of
+handed_said r = chosen (is_row r) said.Frame
 
-module _ (said : Line) (r : List ℕ) where
-  pub row_yes : is_bytes r ≡ true → row_line said r ≡ said
-  unfolding row_line
-  row_yes e = rw e
-
-  pub row_no : is_bytes r ≡ false → row_line said r ≡ Bad
-  unfolding row_line
-  row_no e = rw e
+pub row_said : (x : Said) (r : List ℕ) → then_some (is_bytes r) x ≡ row_line (Some x) r
+unfolding row_line
+row_said x r = chosen (is_bytes r) x
 
 -- ---- a line, by what it begins with ----
 

@@ -7,10 +7,7 @@ use Rattle.rules.specs.Chip.{Memory, small, known, flash_size, blank_byte}
 use Rattle.rules.specs.Lines.{lines_of, row_bytes}
 use Rattle.rules.specs.Options.{fresh_options}
 use Rattle.text_script.specs.declared.chip_file.Stated.{Stated}
-use Rattle.text_script.specs.declared.chip_file.ChipFile.{ChipFile}
-use Rattle.text_script.specs.declared.chip_file.ChipFile.TheVariants.{States, BadLine}
-use Rattle.text_script.specs.declared.script_line.Line.{Line}
-use Rattle.text_script.specs.declared.script_line.Line.TheVariants.{Bad, OfChip, Stored, Store, PowerOn, Bytes, Frame, Show, Sheet, Play}
+use Rattle.text_script.specs.Answers.{ChipFile, States, BadLine, Line, Bad, OfChip, Stored, Store, PowerOn, Bytes, Frame, Show, Sheet, Play}
 use Rattle.text_script.specs.Script.{line_of}
 use Rattle.text_script.specs.Chips.{stored_in}
 

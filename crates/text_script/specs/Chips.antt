@@ -1,7 +1,6 @@
 -- What the lines of a script do to the chip. Assumes nothing.
 use Rattle.std.specs.Prelude.{ℕ, Bool, true, false, cond, List}
-use Rattle.rules.specs.declared.Call.{Call}
-use Rattle.rules.specs.declared.Call.TheVariants.{Refused, Answer}
+use Rattle.rules.specs.Answers.{Call, Refused, Answer}
 use Rattle.rules.specs.declared.Flash.{Flash}
 use Rattle.rules.specs.Chip.{Memory, flash_of, with_flash}
 use Rattle.rules.specs.StandIn.{State, Powered}

@@ -1,3 +1,4 @@
+pub mod Answers
 pub mod Script
 pub mod Chips
 pub mod ChipFiles

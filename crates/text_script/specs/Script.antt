@@ -5,15 +5,12 @@ use Rattle.rules.specs.declared.Flash.TheVariants.{Code, Data}
 use Rattle.rules.specs.Chip.{small, same, block, first_byte}
 use Rattle.rules.specs.Text.{ascii}
 use Rattle.rules.specs.Lines.{between, starts_with, is_row, row_bytes}
-use Rattle.text_read.specs.declared.number.Number.{Number}
-use Rattle.text_read.specs.declared.number.Number.TheVariants as number
+use Rattle.text_read.specs.Answers.{Number, Named, Is, NoChip}
+use Rattle.text_read.specs.Answers as number
 use Rattle.text_read.specs.Bytes.{is_bytes}
 use Rattle.text_read.specs.Numerals.{hex_of}
-use Rattle.text_read.specs.declared.chips.Named.{Named}
-use Rattle.text_read.specs.declared.chips.Named.TheVariants.{Is, None}
 use Rattle.text_read.specs.Chips.{chip_named}
-use Rattle.text_script.specs.declared.script_line.Line.{Line}
-use Rattle.text_script.specs.declared.script_line.Line.TheVariants.{Bad, OfChip, Stored, Store, PowerOn, Bytes, Frame, Show, Sheet, Play}
+use Rattle.text_script.specs.Answers.{Line, Bad, OfChip, Stored, Store, PowerOn, Bytes, Frame, Show, Sheet, Play}
 
 -- ---- `code AAAAA HH ..`, `data AAAAA HH ..` ----
 
@@ -57,7 +54,7 @@ options_of t =
 
 abbrev pub chip_of : Named → Line
 chip_of (Is k) = OfChip k
-chip_of None = Bad
+chip_of NoChip = Bad
 
 -- ---- `frame HH ..`, and `frame` alone for nothing ----
 

@@ -1,7 +1,7 @@
 // `frame HH HH ..`: written out again, handed over whole, and what is answered or refused.
 use crate::send;
 use crate::session::Session;
-use rules::{Call, Note};
+use rules::{Note, Refusal};
 use standin_frames::frame_call;
 use text_lines::told;
 use text_read::{part, rows};
@@ -11,15 +11,12 @@ const ROOM: usize = 261;
 
 // How much of a row's text is read: three bytes for each byte that there is room for.
 fn read_of(row: &[u8]) -> usize {
-    if row.len() > 783 {
-        return 783;
-    }
-    row.len()
+    row.len().min(783)
 }
 
 // Writes the refusal, or the answer with its note.
-fn tell(call: Call, note: Note, reply: &[u8]) {
-    if let Call::Refused(refusal) = call {
+fn tell(call: Result<usize, Refusal>, note: Option<Note>, reply: &[u8]) {
+    if let Err(refusal) = call {
         told::refused(refusal);
         return;
     }

@@ -6,13 +6,14 @@ ghost use Rattle.chip_finder.specs.LentFlashes.{memory};
 ghost use Rattle.standin.specs.Shows.{shows, answered_as};
 
 use crate::session::Session;
-use rules::{Call, Note};
+use rules::{Note, Refusal};
 use standin::call::{Answered, Device, byte_call};
 use standin_rig::lending::byte_lent;
 use text_lines::output;
 use text_read::{part, rows};
 use text_told::notes::put_note;
 
+// stays: the flag is a fact of its own, and the chip is there in both cases.
 // The chip while bytes are sent, and whether it has answered any of them.
 #[derive(Clone, Copy)]
 struct Sent {
@@ -21,6 +22,7 @@ struct Sent {
 }
 
 // Writes a row out again, its digits in upper case, in pieces of 256 bytes; and ends the line.
+// stays, here and in `send_row`: the row is text, its bytes are read from it by number, and there is no slice of them to go over.
 pub(crate) fn echo(row: &[u8]) {
     let mut line = [b' '; 768];
     let mut at: usize = 0;
@@ -35,11 +37,8 @@ pub(crate) fn echo(row: &[u8]) {
     io::write_all(1, b"\n");
 }
 
-pub(crate) fn size_of(call: Call) -> usize {
-    match call {
-        Call::Answer(n) => n,
-        Call::Refused(_) => 0,
-    }
+pub(crate) fn size_of(call: Result<usize, Refusal>) -> usize {
+    call.unwrap_or(0)
 }
 
 // Writes the first `size` bytes of a reply: they begin the answer line, or go on with it.
@@ -54,7 +53,7 @@ pub(crate) fn answer(reply: &[u8], size: usize, answered: bool) {
 }
 
 // Writes the note's line, if there is one: it ends the answer line, and a later answer begins a new one.
-pub(crate) fn noted(note: Note) -> bool {
+pub(crate) fn noted(note: Option<Note>) -> bool {
     let mut line = [0u8; 64];
     let size = put_note(&mut line, 0, note);
     if size == 0 {

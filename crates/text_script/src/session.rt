@@ -10,11 +10,12 @@ ghost use Rattle.chip_finder.specs.LentFlashes.{memory};
 ghost use Rattle.standin.specs.Shows.{shows};
 ghost use Rattle.text_script.specs.Chips.{stored_in, refused_call, on_after, powered};
 
-use rules::{Call, Chip, Flash, Options, Phase, Task};
+use rules::{Chip, Flash, Options, Phase, Refusal, Task};
 use standin::call::Device;
 use standin_state::resting::at_rest;
 use text_read::rows;
 
+// stays: no Option, since the record is there with the power off too, and its options are kept.
 // Its record, and whether its power is on. With the power off the record is Silent; its options are those stored.
 #[derive(Clone, Copy)]
 pub struct Session {
@@ -37,6 +38,7 @@ pub fn fresh(chip: Chip, code: &mut [u8], data: &mut [u8]) -> Session
 }
 
 // These options stored; the power goes off.
+#[tactic(auto, unfolding(rules::specs::StandIn::received))]
 pub fn off(s: Session, o: Options) -> Session
     ensures { (result.on ≡ false) × (result.device.chip ≡ s.device.chip) × ((m : Memory) → shows result.device m ≡ rest Silent Idle o m) }
 {
@@ -53,16 +55,7 @@ pub fn off(s: Session, o: Options) -> Session
 #[derive(Clone, Copy)]
 pub struct Powered {
     pub session: Session,
-    pub call: Call,
-}
-
-fn is_refused(call: Call) -> bool
-    ensures { result ≡ refused_call call }
-{
-    match call {
-        Call::Refused(_) => true,
-        Call::Answer(_) => false,
-    }
+    pub call: Result<usize, Refusal>,
 }
 
 // Power-on, with options and flash as they stand; refused, all stands.
@@ -76,17 +69,17 @@ pub fn power_on(s: Session, code: &[u8], data: &[u8]) -> Powered
     let answered = standin::call::power_on(d, o, code, data);
     let call = answered.call;
     let after = answered.device;
-    let mut on = true;
-    if is_refused(call) {
-        on = s.on;
-    }
     Powered {
-        session: Session { on, device: after },
+        session: Session {
+            on: call.is_ok() || s.on,
+            device: after,
+        },
         call,
     }
 }
 
 // The bytes of a row stored in one flash from `at`, if they all lie in it.
+#[tactic(auto, using(crate::proofs::Says::stored_code, crate::proofs::Says::stored_data))]
 pub fn store(f: Flash, at: usize, row: &[u8], code: &mut [u8], data: &mut [u8])
     ensures { memory code.new «data».new ≡ stored_in f at (row_bytes row.now) (memory code.old «data».old) }
 {

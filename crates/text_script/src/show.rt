@@ -62,6 +62,7 @@ fn page_line(f: Flash, k: usize, page: &[u8]) {
 }
 
 // The pages of one flash that are not blank.
+// stays: a page is named by its number, of which its address is made.
 fn pages<'a>(chip: Chip, f: Flash, code: &'a [u8], data: &'a [u8]) {
     for k in 0..chip_finder::page_count(chip, f) {
         let page = chip_finder::page_part(chip, code, data, f, k);

@@ -7,9 +7,8 @@ use native.Mathlib.Numerals.{add-one}
 use lib.ListN.{length, drop, get_or, drop_of_length-le}
 use lib.Seq.{drop-cons}
 use Rattle.rules.specs.declared.Chip.{Chip}
-use Rattle.rules.specs.declared.Call.{Call}
-use Rattle.rules.specs.declared.Call.TheVariants.{Answer}
-use Rattle.rules.specs.declared.Note.{Note}
+use Rattle.rules.specs.Answers.{Call, Answer}
+use Rattle.rules.specs.Notes.{Note}
 use Rattle.rules.specs.Numbers.{call_number}
 use Rattle.rules.specs.StandIn.{State, Outcome, byte_call}
 use Rattle.standin_engine.specs.View.{call_outcome}

@@ -1,8 +1,7 @@
 -- The stand-in on a stream of bytes: a turn, which ends with the first answer. Assumes nothing.
 use Rattle.std.specs.Prelude.{ℕ, ◌+◌, Bool, true, cond, List, [], ◌∷◌, ltb}
 use Rattle.rules.specs.declared.Chip.{Chip}
-use Rattle.rules.specs.declared.Call.{Call}
-use Rattle.rules.specs.declared.Call.TheVariants.{Refused, Answer}
+use Rattle.rules.specs.Answers.{Call, Refused, Answer}
 use Rattle.rules.specs.Chip.{Memory}
 use Rattle.rules.specs.StandIn.{State, byte_call}
 use Rattle.standin.specs.Shows.{shows}

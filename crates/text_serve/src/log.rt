@@ -6,6 +6,7 @@ ghost use Rattle.text_serve.specs.Log.{line_told, turn_told};
 use text_lines::output::row;
 use text_out::put;
 
+#[tactic(auto, using(crate::proofs::Telling::lined))]
 fn put_line(buf: &mut [u8], at: usize, sign: u8, bytes: &[u8]) -> usize
     ensures { out result buf.new ≡ add (line_told sign bytes.now) (out at buf.old) }
 {

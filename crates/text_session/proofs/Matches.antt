@@ -1,5 +1,5 @@
 -- Laws of answers compared with a row as they come. Assumes nothing.
-use mathlib.Core.Path.{◌≡◌, refl, sym, ◌∙◌}
+use mathlib.Core.Path.{◌≡◌, refl, sym}
 use mathlib.Core.Bool.{Bool, true, false}
 use mathlib.Core.List.{List, [], ◌∷◌, ◌++◌}
 use Prim.Native.Nat.{ℕ, ◌+◌, ◌<◌, ◌≤◌}
@@ -10,7 +10,7 @@ use lib.ListN.{length, get_or, drop, drop_of_length-le}
 use lib.Seq.{drop-cons}
 use borrow.Author.Tests.{eq-eqb, ne_eqb, leb-true, leb-false}
 use Rattle.rules.specs.Chip.{same}
-use Rattle.text_session.specs.declared.matching.Matching.{Matching}
+use Rattle.std.specs.Prelude.{Some}
 use Rattle.text_session.specs.Session.{matches}
 
 -- an answer from its k-th byte on and what is answered later, and a row from a place on
@@ -31,35 +31,18 @@ module _ (a row : List ℕ) (k at : ℕ) (later : List ℕ) where
   unfolding same
   same_byte h g e = rw (drop-cons a k 0, drop-cons row at 0, add-one k, add-one at) (simp (eq-eqb _ _ (sym e)))
 
-  -- the answer ends
-  pub answer_ends : length a ≤ k → same (drop k a ++ later) (drop at row) ≡ same later (drop at row)
-  answer_ends h = rw (drop_of_length-le a h)
-
-module _ (m : Matching) (due row : List ℕ) where
-  pub no_more : m.right ≡ false → matches m due row ≡ false
-  unfolding matches
-  no_more e = simp e
-
-  pub still : m.right ≡ true → matches m due row ≡ same due (drop m.at row)
-  unfolding matches
-  still e = simp e
-
--- nothing was answered so far
-pub at_first_lem : (m : Matching) (due row : List ℕ) → m.right ≡ true → m.at ≡ 0 → same due row ≡ matches m due row
-at_first_lem m due row r z = sym (still m due row r ∙ rw z)
-
 -- nothing more is due: the row has no more
-pub all_matched : (m : Matching) (row : List ℕ) (n : ℕ) → n ≡ length row → m.right ≡ true → leb n m.at ≡ matches m [] row
-unfolding same
-all_matched m row n e r = go (leb n m.at) refl
+pub all_matched : (at : ℕ) (row : List ℕ) (n : ℕ) → n ≡ length row → leb n at ≡ matches (Some at) [] row
+unfolding same matches
+all_matched at row n e = go (leb n at) refl
   where
-    go : (x : Bool) → leb n m.at ≡ x → x ≡ matches m [] row
+    go : (x : Bool) → leb n at ≡ x → x ≡ same [] (drop at row)
     go true q =
-        let h : length row ≤ m.at = rw (← e) (leb-true _ _ q) in
-        sym (still m [] row r ∙ rw (drop_of_length-le row h))
+        let h : length row ≤ at = rw (← e) (leb-true _ _ q) in
+        rw (drop_of_length-le row h)
     go false q =
-        let h : m.at < length row = rw (← e) (leb-false _ _ q) in
-        sym (still m [] row r ∙ rw (drop-cons row m.at 0 h))
+        let h : at < length row = rw (← e) (leb-false _ _ q) in
+        rw (drop-cons row at 0 h)
 
 -- a line that gives nothing, by the count of its row
 pub none_due : (n : ℕ) (row g : List ℕ) → n ≡ length row → row ≡ g → eqb n 0 ≡ same [] g

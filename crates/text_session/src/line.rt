@@ -5,24 +5,20 @@ ghost use Rattle.rules.specs.Lines.{row_bytes};
 ghost use Rattle.rules.specs.Capture.{is_line, given};
 ghost use Rattle.text_session.specs.Session.{has_sign};
 
-use octets::numbers::byte_at;
 use text_read::{part, rows};
 
 // Whether a line begins as one that has pairs.
 fn has_sign(line: &[u8]) -> bool
     ensures { result ≡ has_sign line.now }
 {
-    if byte_at(line, 0) == b'>' {
-        return true;
-    }
-    byte_at(line, 0) == b'<'
+    matches!(line, [b'>' | b'<', ..])
 }
 
 // Whether a line is of good form, without its LF.
 pub fn is_line(line: &[u8]) -> bool
     ensures { result ≡ is_line line.now }
 {
-    if octets::same_bytes(line, b"!") {
+    if line == b"!".as_slice() {
         return true;
     }
     if !has_sign(line) {
@@ -35,10 +31,7 @@ pub fn is_line(line: &[u8]) -> bool
 pub fn given_row<'a>(line: &'a [u8]) -> &'a [u8]
     ensures { row_bytes result.now ≡ given line.now }
 {
-    if byte_at(line, 0) != b'<' {
-        return &line[0..0];
-    }
-    part::rest(line, 1)
+    line.strip_prefix(b"<").unwrap_or(&[])
 }
 
 // Whether a line fits behind so many lines: the first is a power-on, a later one gives just what is due.
@@ -46,7 +39,7 @@ pub fn fits(done: usize, line: &[u8], right: bool) -> bool
     ensures { result ≡ cond (eqb done 0) (same line.now (0x21 ∷ [])) right }
 {
     if done == 0 {
-        return octets::same_bytes(line, b"!");
+        return line == b"!".as_slice();
     }
     right
 }

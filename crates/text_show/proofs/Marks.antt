@@ -1,22 +1,14 @@
 -- Laws of the map: a step more over a block, the pages and the rows that are left. Assumes nothing.
-use mathlib.Core.Path.{◌≡◌, refl}
-use mathlib.Core.Bool.{not}
+use mathlib.Core.Path.{◌≡◌}
 use mathlib.Core.List.{List, [], ◌∷◌, ◌++◌}
 use Prim.Native.Nat.{ℕ, suc, ◌+◌, ◌-◌, ◌*◌, ◌<◌, ◌≤◌}
 use native.Mathlib.Omega.{arith}
 use native.Mathlib.Numerals.{add-one}
 use Rattle.rules.specs.declared.Chip.{Chip}
 use Rattle.rules.specs.declared.Flash.{Flash}
-use Rattle.rules.specs.declared.Flash.TheVariants.{Code, Data}
-use Rattle.rules.specs.Chip.{same_flash}
+use Rattle.rules.specs.declared.Flash.TheVariants.{Code}
 use Rattle.rules.specs.Sheet.{step_at}
 use Rattle.text_show.specs.Map.{mark_by, mark_after, page_mark, marks_from, row_text, row_pages, code_rows}
-
--- a flash that is not code flash is data flash
-pub not_code : (f : Flash) → not (same_flash f Code) ≡ same_flash f Data
-unfolding same_flash
-not_code Code = refl
-not_code Data = refl
 
 -- a step more
 pub one_more_step : (chip : Chip) (s : List ℕ) (f : Flash) (b i : ℕ) → mark_after chip s f b (i + 1) ≡ mark_by (step_at chip s i) f b (mark_after chip s f b i)

@@ -17,8 +17,7 @@ use Rattle.rules.specs.declared.Kind.TheVariants.{Erase, Write, Verify, Sum, Bla
 use Rattle.rules.specs.declared.Refusal.{Refusal}
 use Rattle.rules.specs.declared.Refusal.TheVariants.{D0, D1, D2, D3, E1, J1, J2, J3, J4, J5, J6, J7, J8, J9, J10, J11, J12, J13, J14, J15, J16, P1, P2}
 use Rattle.rules.specs.declared.Step.{Step}
-use Rattle.rules.specs.declared.Verdict.{Verdict}
-use Rattle.rules.specs.declared.Verdict.TheVariants.{Accepted, Refused}
+use Rattle.rules.specs.Answers.{Verdict, Accepted, Refused}
 use Rattle.rules.specs.Chip.{small, large, blocks, start, page_size, pages, pages_per_block, first_byte, last_byte}
 use Rattle.rules.specs.First.{first}
 use Rattle.rules.specs.Numbers.{kind_number}

@@ -5,7 +5,7 @@ use Rattle.rules.specs.declared.Flash.{Flash}
 use Rattle.rules.specs.declared.Flash.TheVariants.{Code, Data}
 use Rattle.rules.specs.declared.Kind.{Kind}
 use Rattle.rules.specs.declared.Kind.TheVariants.{Erase, Write, Verify, Sum, Blank, Lock}
-use Rattle.rules.specs.declared.Range.TheVariants.{Blocks}
+use Rattle.rules.specs.Answers.{Blocks}
 use Rattle.rules.specs.declared.Step.{Step}
 use Rattle.rules.specs.Chip.{start, page_size, pages, block_of_page}
 use Rattle.rules.specs.Sheet.{count, covers, step_at}

@@ -1,7 +1,6 @@
 -- What `show` tells of a sheet, byte for byte: lines of ASCII, each ended by LF. A sheet is judged against the chip that it names. Assumes nothing.
 use Rattle.std.specs.Prelude.{ℕ, List, ◌++◌}
-use Rattle.rules.specs.declared.Verdict.{Verdict}
-use Rattle.rules.specs.declared.Verdict.TheVariants.{Accepted, Refused}
+use Rattle.rules.specs.Answers.{Verdict, Accepted, Refused}
 use Rattle.rules.specs.Sheet.{against, count, sheet_verdict}
 use Rattle.text_show.specs.Words.{form_line, chip_line}
 use Rattle.text_show.specs.Steps.{steps_from, frames_line}

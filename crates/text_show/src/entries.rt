@@ -71,7 +71,7 @@ fn lock_wrong(sheet: &[u8], i: usize) -> bool
     if i + 1 == n {
         return false;
     }
-    flags.sf2 / 4 % 2 == 0
+    flags.clears_ifpr()
 }
 
 fn offset_wrong(sheet: &[u8], i: usize) -> bool
@@ -91,33 +91,18 @@ fn body_wrong(sheet: &[u8], i: usize) -> bool
 }
 
 // Whether entry i breaks that rule; a rule that is not an entry's it does not break.
+#[tactic(auto, unfolding(crate::specs::Refused::breaks))]
 pub(crate) fn breaks(refusal: Refusal, sheet: &[u8], i: usize) -> bool
     requires { i < 65536 }
     ensures { result ≡ breaks refusal sheet.now i }
 {
     match refusal {
-        Refusal::D0 => false,
-        Refusal::D1 => false,
-        Refusal::D2 => false,
-        Refusal::D3 => false,
-        Refusal::E1 => false,
-        Refusal::J1 => false,
-        Refusal::J2 => false,
-        Refusal::J3 => false,
         Refusal::J4 => kind_wrong(sheet, i),
         Refusal::J5 => zero_wrong(sheet, i),
         Refusal::J6 => pair_wrong(sheet, i),
         Refusal::J7 => offset_wrong(sheet, i),
         Refusal::J8 => body_wrong(sheet, i),
-        Refusal::J9 => false,
-        Refusal::J10 => false,
-        Refusal::J11 => false,
         Refusal::J12 => lock_wrong(sheet, i),
-        Refusal::J13 => false,
-        Refusal::J14 => false,
-        Refusal::J15 => false,
-        Refusal::J16 => false,
-        Refusal::P1 => false,
-        Refusal::P2 => false,
+        _ => false,
     }
 }

@@ -1,18 +1,18 @@
 // The map of both flashes, a character a page.
 ghost use Rattle.std.specs.Prelude.{◌≡◌, ◌+◌, ◌*◌, ◌≤◌};
-ghost use Rattle.rules.specs.declared.Flash.TheVariants.{Code};
 ghost use Rattle.rules.specs.declared.Kind.TheVariants.{Verify};
 ghost use Rattle.rules.specs.Chip.{start, page_size, pages, block_of_page, same_flash};
 ghost use Rattle.rules.specs.Sheet.{count};
 ghost use Rattle.text_out.specs.Out.{out, add};
 ghost use Rattle.text_show.specs.Map.{looked_at, touched, mark_by, mark_after, page_mark, marks_from, row_text, code_rows, map_text};
 
-use crate::words::{put_flash, put_hex5};
+use crate::words::put_hex5;
 use chip_finder::{first_byte, page_count};
 use rules::{Block, Chip, Flash, Kind, Step};
 use sheet::steps::step_at;
 use sheet::table::count;
 use text_out::{put, put_bytes};
+use text_told::words::put_flash;
 
 // The characters of a page.
 const UNTOUCHED: u8 = b'.';
@@ -52,6 +52,7 @@ fn verified(c: u8) -> u8
 }
 
 // A step of that kind, over a page of which c was told before.
+#[tactic(auto, unfolding(crate::specs::Map::touched))]
 fn touched(kind: Kind, c: u8) -> u8
     ensures { result ≡ touched kind c }
 {
@@ -65,22 +66,11 @@ fn touched(kind: Kind, c: u8) -> u8
     }
 }
 
-fn is_code(f: Flash) -> bool
-    ensures { result ≡ same_flash f Code }
-{
-    match f {
-        Flash::Code => true,
-        Flash::Data => false,
-    }
-}
-
+#[tactic(auto, unfolding(rules::specs::Chip::same_flash))]
 fn same_flash(f: Flash, g: Flash) -> bool
     ensures { result ≡ same_flash f g }
 {
-    match g {
-        Flash::Code => is_code(f),
-        Flash::Data => !is_code(f),
-    }
+    f == g
 }
 
 // A step over block b of a flash.
@@ -108,6 +98,7 @@ fn block_mark(chip: Chip, sheet: &[u8], f: Flash, b: usize) -> u8
     ensures { result ≡ mark_after chip sheet.now f b (count sheet.now) }
 {
     let mut c = UNTOUCHED;
+    // stays: an entry is read from the sheet by its number; there is no slice of entries to go over
     for i in 0..count(sheet) {
         c = mark_by(step_at(chip, sheet, i), f, b, c);
     }
@@ -145,6 +136,7 @@ fn put_marks(
     ensures { out result buf.new ≡ add (marks_from chip sheet.now f from n) (out at buf.old) }
 {
     let mut next = at;
+    // stays: a page is told by its number, which `marks_from` goes by
     for i in 0..n {
         next = put(buf, next, page_mark(chip, sheet, f, from + i));
     }
@@ -188,6 +180,7 @@ fn put_code_rows(buf: &mut [u8], at: usize, chip: Chip, sheet: &[u8], rows: usiz
     ensures { out result buf.new ≡ add (code_rows chip sheet.now 0 rows) (out at buf.old) }
 {
     let mut next = at;
+    // stays: a row of the map is told by its number, which `code_rows` goes by
     for row in 0..rows {
         next = put_row(
             buf,

@@ -11,15 +11,11 @@ use sheet::table::count;
 use text_out::{put, put_bytes, put_decimal};
 use text_told::words::put_count;
 
+#[tactic(auto, unfolding(crate::specs::Refused::meaning))]
 fn put_meaning(buf: &mut [u8], at: usize, refusal: Refusal) -> usize
     ensures { out result buf.new ≡ add (meaning refusal) (out at buf.old) }
 {
     match refusal {
-        Refusal::D0 => at,
-        Refusal::D1 => at,
-        Refusal::D2 => at,
-        Refusal::D3 => at,
-        Refusal::E1 => at,
         Refusal::J1 => put_bytes(
             buf,
             at,
@@ -37,7 +33,6 @@ fn put_meaning(buf: &mut [u8], at: usize, refusal: Refusal) -> usize
         Refusal::J7 => put_bytes(buf, at, b"its offset is not the one due"),
         Refusal::J8 => put_bytes(buf, at, b"its body goes past the end of the sheet"),
         Refusal::J9 => put_bytes(buf, at, b"bytes are left over behind the last body"),
-        Refusal::J10 => at,
         Refusal::J11 => put_bytes(
             buf,
             at,
@@ -53,11 +48,7 @@ fn put_meaning(buf: &mut [u8], at: usize, refusal: Refusal) -> usize
             at,
             b"a page is written twice with no erase of it between",
         ),
-        Refusal::J14 => at,
-        Refusal::J15 => at,
-        Refusal::J16 => at,
-        Refusal::P1 => at,
-        Refusal::P2 => at,
+        _ => at,
     }
 }
 
@@ -66,14 +57,13 @@ fn first_to_break(refusal: Refusal, sheet: &[u8]) -> usize
     ensures { result ≡ first_to_break refusal sheet.now 0 (count sheet.now) }
 {
     let n = count(sheet);
-    let mut i = 0;
-    while i < n {
+    // stays: an entry is read from the sheet by its number; there is no slice of entries to go over
+    for i in 0..n {
         if breaks(refusal, sheet, i) {
             return i;
         }
-        i += 1;
     }
-    i
+    n
 }
 
 // `entry 2, `, or nothing.

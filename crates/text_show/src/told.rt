@@ -7,7 +7,7 @@ use crate::map::put_map;
 use crate::refused::put_refused;
 use crate::steps::{put_frames, put_steps};
 use crate::words::{put_chip, put_form};
-use rules::Verdict;
+use rules::Refusal;
 use sheet::judge::sheet_verdict;
 use sheet::table::against;
 
@@ -22,12 +22,12 @@ fn put_job(buf: &mut [u8], at: usize, sheet: &[u8]) -> usize
     put_map(buf, at, chip, sheet)
 }
 
-fn put_judged(buf: &mut [u8], at: usize, sheet: &[u8], verdict: Verdict) -> usize
+fn put_judged(buf: &mut [u8], at: usize, sheet: &[u8], verdict: Result<(), Refusal>) -> usize
     ensures { out result buf.new ≡ add (judged_text sheet.now verdict) (out at buf.old) }
 {
     match verdict {
-        Verdict::Accepted => put_job(buf, at, sheet),
-        Verdict::Refused(refusal) => put_refused(buf, at, sheet, refusal),
+        Ok(()) => put_job(buf, at, sheet),
+        Err(refusal) => put_refused(buf, at, sheet, refusal),
     }
 }
 

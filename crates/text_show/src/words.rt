@@ -1,21 +1,11 @@
 // The words of a line.
 ghost use Rattle.std.specs.Prelude.{◌≡◌};
-ghost use Rattle.rules.specs.Text.{flash_text};
 ghost use Rattle.text_out.specs.Out.{out, add};
 ghost use Rattle.text_show.specs.Words.{hex5, form_line, chip_line};
 
-use rules::{Chip, Flash};
+use rules::Chip;
 use sheet::table::form_two;
 use text_out::{hex_digit, put, put_bytes, put_hex4};
-
-pub(crate) fn put_flash(buf: &mut [u8], at: usize, f: Flash) -> usize
-    ensures { out result buf.new ≡ add (flash_text f) (out at buf.old) }
-{
-    match f {
-        Flash::Code => put_bytes(buf, at, b"code"),
-        Flash::Data => put_bytes(buf, at, b"data"),
-    }
-}
 
 // An address as five hex digits.
 pub(crate) fn put_hex5(buf: &mut [u8], at: usize, n: u32) -> usize

@@ -9,7 +9,7 @@ use rules::{Kind, Refusal, Report, Status};
 use text_out::{put, put_bytes, put_decimal, put_hex4};
 
 // `3 sum`
-fn put_name(buf: &mut [u8], at: usize, number: usize, kind: Kind) -> usize
+pub fn put_name(buf: &mut [u8], at: usize, number: usize, kind: Kind) -> usize
     ensures { out result buf.new ≡ add (kind_text kind) (add (ascii " ") (add (decimal number) (out at buf.old))) }
 {
     let at = put_decimal(buf, at, number);

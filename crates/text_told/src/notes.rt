@@ -1,21 +1,13 @@
 // The line of a note; nothing where the note is empty.
 ghost use Rattle.std.specs.Prelude.{◌≡◌};
-ghost use Rattle.rules.specs.declared.Note.TheVariants.{Used, Length};
+ghost use Rattle.rules.specs.Notes.{Used, Length};
 ghost use Rattle.rules.specs.Chip.{block};
-ghost use Rattle.rules.specs.Text.{flash_text, note_line};
+ghost use Rattle.rules.specs.Text.{note_line};
 ghost use Rattle.text_out.specs.Out.{out, add};
 
+use crate::words::put_flash;
 use rules::{Flash, Note};
 use text_out::{put, put_bytes, put_decimal, put_hex2};
-
-fn put_flash(buf: &mut [u8], at: usize, f: Flash) -> usize
-    ensures { out result buf.new ≡ add (flash_text f) (out at buf.old) }
-{
-    match f {
-        Flash::Code => put_bytes(buf, at, b"code"),
-        Flash::Data => put_bytes(buf, at, b"data"),
-    }
-}
 
 // `note code 3 5`
 fn put_used(buf: &mut [u8], at: usize, f: Flash, number: u16, page: usize) -> usize
@@ -41,11 +33,13 @@ fn put_length(buf: &mut [u8], at: usize, due: u8, found: u8) -> usize
     put(buf, at, b'\n')
 }
 
-pub fn put_note(buf: &mut [u8], at: usize, note: Note) -> usize
+pub fn put_note(buf: &mut [u8], at: usize, note: Option<Note>) -> usize
     ensures { out result buf.new ≡ add (note_line note) (out at buf.old) }
 {
+    let Some(note) = note else {
+        return at;
+    };
     match note {
-        Note::Empty => at,
         Note::Used(f, b, k) => put_used(buf, at, f, b.0, k),
         Note::Bits => put_bytes(buf, at, b"note options\n"),
         Note::EndByte => put_bytes(buf, at, b"note end\n"),

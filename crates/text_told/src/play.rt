@@ -10,32 +10,18 @@ use sheet::steps::step_at;
 use sheet::table::count;
 use text_out::put_bytes;
 
+#[tactic(auto, unfolding(rules::specs::Text::stopped))]
 fn is_stopped(status: Status) -> bool
     ensures { result ≡ stopped status }
 {
-    match status {
-        Status::Byte(b) => b != 0x06,
-        Status::L1 => true,
-    }
+    !matches!(status, Status::Byte(0x06))
 }
 
-// The entry of step i in the list of each step's frames, and in the list of sums; 0 past their ends.
-fn frames_of(frames: &[usize], i: usize) -> usize
-    ensures { result ≡ get_or frames.now i 0 }
+// The entry of step i in a list of what each step came to; past its end, none was.
+fn entry_of<T: Copy>(list: &[T], i: usize, none: T) -> T
+    ensures { result ≡ get_or list.now i none }
 {
-    if i < frames.len() {
-        return frames[i];
-    }
-    0
-}
-
-fn sum_of(sums: &[u16], i: usize) -> u16
-    ensures { result ≡ get_or sums.now i 0 }
-{
-    if i < sums.len() {
-        return sums[i];
-    }
-    0
+    list.get(i).copied().unwrap_or(none)
 }
 
 // The line of step i: finished, stopped, or none.
@@ -54,8 +40,8 @@ fn put_line(
 {
     let t = step_at(chip, sheet, i);
     let kind = t.kind;
-    let sent = frames_of(frames, i);
-    let sum = sum_of(sums, i);
+    let sent = entry_of(frames, i, 0);
+    let sum = entry_of(sums, i, 0);
     let status = report.status;
     if i < report.steps {
         return put_step(buf, at, i + 1, kind, Status::Byte(0x06), sent, sum);
@@ -82,6 +68,7 @@ fn put_lines(
     ensures { out result buf.new ≡ add (lines_from chip sheet.now report sums.now frames.now 0 (count sheet.now)) (out at buf.old) }
 {
     let mut next = at;
+    // stays: an entry is read from the sheet by its number; there is no slice of entries to go over
     for i in 0..count(sheet) {
         next = put_line(buf, next, chip, sheet, report, sums, frames, i);
     }

@@ -1,9 +1,9 @@
 -- 02, M-101: sessions with bad frames, and which fault the note names. Assumes nothing.
-use Rattle.std.specs.Prelude.{List, [], ◌∷◌, ◌++◌, ℕ, replicate}
-use Rattle.rules.specs.declared.Note.TheVariants.{Empty, EndByte, Length}
+use Rattle.std.specs.Prelude.{List, [], ◌∷◌, ◌++◌, replicate}
+use Rattle.rules.specs.Notes.{EndByte, Length}
 use Rattle.rules.specs.Options.{fresh_options}
 use Rattle.rules.specs.Frame.{last_end, more_end}
-use Rattle.trials_rows.specs.Rows.{to, to_noted, Session, mode, speed, blank_flash, ack, session, on_fresh, on_fresh_noted, ending, ask_ident, opening, command, page, one, pair, one_page, two_pages, paged}
+use Rattle.trials_rows.specs.Rows.{to, to_noted, Session, mode, blank_flash, ack, session, on_fresh, on_fresh_noted, ending, ask_ident, opening, command, page, one, pair, one_page, two_pages, paged}
 
 unfoldable pub bad_frames : List Session
 bad_frames =

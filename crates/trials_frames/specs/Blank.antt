@@ -1,12 +1,11 @@
 -- 02, M-100: sessions with Blank Check and their notes. Assumes nothing.
-use Rattle.std.specs.Prelude.{List, [], ◌∷◌, ◌++◌, true, ℕ, set}
+use Rattle.std.specs.Prelude.{List, [], ◌∷◌, ◌++◌, ℕ, set}
 use Rattle.rules.specs.declared.Flash.TheVariants.{Code, Data}
 use Rattle.rules.specs.declared.Options.{Options}
-use Rattle.rules.specs.declared.Note.{Note}
-use Rattle.rules.specs.declared.Note.TheVariants.{Empty, Used, Bits}
-use Rattle.rules.specs.Chip.{Memory, small, block}
+use Rattle.rules.specs.Notes.{Note, Empty, Used, Bits}
+use Rattle.rules.specs.Chip.{Memory, block}
 use Rattle.rules.specs.Options.{fresh_options}
-use Rattle.trials_rows.specs.Rows.{Exchange, to, to_noted, Session, mode, speed, blank_flash, ack, session, on_fresh, ending, flags, no_boot, ask_ident, command, one, opening}
+use Rattle.trials_rows.specs.Rows.{to, to_noted, Session, mode, blank_flash, ack, session, ending, flags, no_boot, ask_ident, command, one, opening}
 
 -- flash with one byte used
 abbrev used_code : ℕ → Memory

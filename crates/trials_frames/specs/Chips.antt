@@ -3,7 +3,7 @@ use Rattle.std.specs.Prelude.{true, List, [], ◌∷◌, ◌++◌, ℕ}
 use Rattle.rules.specs.declared.Chip.{Chip}
 use Rattle.rules.specs.declared.Options.{Options}
 use Rattle.rules.specs.declared.numbers.Number.{Number}
-use Rattle.rules.specs.Chip.{Memory, small, large, fresh_memory}
+use Rattle.rules.specs.Chip.{small, large, fresh_memory}
 use Rattle.rules.specs.Options.{fresh_options}
 use Rattle.trials_rows.specs.Rows.{plain, D, J, Exchange, to, Session, Play, refused_by, no_sums, unreached, Lending, blank_flash, ack, opening, session, no_boot, command, one, pair, entry_in}
 

@@ -1,9 +1,8 @@
 -- 02, M-106: sheets of form 2, plays of the new kinds, replies to a lock, and moves; what they come to by the definitions. Assumes nothing.
-use Rattle.std.specs.Prelude.{ℕ, ◌-◌, Bool, true, ◌&&◌, List, [], ◌∷◌, ◌++◌, eqb, length, take, drop, replicate}
-use Rattle.rules.specs.declared.Chip.{Chip}
+use Rattle.std.specs.Prelude.{ℕ, ◌-◌, Bool, true, ◌&&◌, List, [], ◌∷◌, ◌++◌, length, replicate}
 use Rattle.rules.specs.declared.Kind.TheVariants.{Sum, Blank, Lock}
 use Rattle.rules.specs.declared.Options.{Options}
-use Rattle.rules.specs.declared.Stage.TheVariants.{Ready, Commanded, Page, Paged}
+use Rattle.rules.specs.declared.Stage.TheVariants.{Commanded, Page, Paged}
 use Rattle.rules.specs.declared.Player.{Player}
 use Rattle.rules.specs.declared.numbers.Number.{Number}
 use Rattle.rules.specs.Chip.{Memory, small, large, same, word_bytes}

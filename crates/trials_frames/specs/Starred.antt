@@ -1,6 +1,6 @@
 -- 01, Trials: the starred ones, 1 to 12, row for row. Phase Command, fresh chip, unless said. Assumes nothing.
 use Rattle.std.specs.Prelude.{List, [], ◌∷◌, ◌++◌}
-use Rattle.rules.specs.declared.Note.TheVariants.{EndByte}
+use Rattle.rules.specs.Notes.{EndByte}
 use Rattle.rules.specs.Options.{fresh_options}
 use Rattle.rules.specs.Frame.{last_end, more_end}
 use Rattle.trials_rows.specs.Rows.{Session, to, session, on_fresh, on_fresh_noted, blank_flash, no_boot, ack, two_pages, page, bad_sum, paged}

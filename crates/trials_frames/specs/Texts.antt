@@ -2,7 +2,7 @@
 use Rattle.std.specs.Prelude.{ℕ, Bool, true, ◌&&◌, List, [], ◌∷◌, ◌++◌}
 use Prim.Native.String.{String}
 use Rattle.rules.specs.declared.Refusal.TheVariants.{D1}
-use Rattle.rules.specs.declared.Verdict.TheVariants.{Refused}
+use Rattle.rules.specs.Answers.{Refused}
 use Rattle.rules.specs.declared.Status.{Status}
 use Rattle.rules.specs.declared.Status.TheVariants.{Byte, L1}
 use Rattle.rules.specs.declared.Report.{Report}

@@ -1,7 +1,7 @@
 -- Further tables of trials: sessions, sheets, single calls. Assumes nothing.
 use Rattle.std.specs.Prelude.{List, [], ◌∷◌, ◌++◌, true, ℕ, set, take, replicate}
 use Rattle.rules.specs.declared.Kind.TheVariants.{Erase, Write, Verify, Sum}
-use Rattle.rules.specs.declared.Note.TheVariants.{EndByte, Length}
+use Rattle.rules.specs.Notes.{EndByte, Length}
 use Rattle.rules.specs.declared.Options.{Options}
 use Rattle.rules.specs.declared.Player.{Player}
 use Rattle.rules.specs.declared.Stage.TheVariants.{Ready, Block, Commanded, Page, Paged, Over}

@@ -1,8 +1,7 @@
 -- 02, M-109: trials of the whole-frame engine. Assumes nothing.
 use Rattle.std.specs.Prelude.{ℕ, Bool, true, ◌&&◌, List, [], ◌∷◌, ◌++◌, eqb, replicate}
 use Rattle.rules.specs.declared.Chip.{Chip}
-use Rattle.rules.specs.declared.Note.{Note}
-use Rattle.rules.specs.declared.Note.TheVariants.{Empty, EndByte, Length}
+use Rattle.rules.specs.Notes.{Note, Empty, EndByte, Length}
 use Rattle.rules.specs.declared.Options.{Options}
 use Rattle.rules.specs.declared.numbers.Number.{Number}
 use Rattle.rules.specs.Chip.{Memory, small, same, over}
@@ -10,7 +9,7 @@ use Rattle.rules.specs.Command.{phase_number}
 use Rattle.rules.specs.Frame.{last_end, more_end}
 use Rattle.rules.specs.Numbers.{call_number, note_numbers}
 use Rattle.rules.specs.Options.{fresh_options}
-use Rattle.trials_rows.specs.Rows.{plain, D, same_number, same_options, same_memory, blank_flash, mode, speed, ack, flags, ask_ident, command, page, one, pair, one_page, two_pages, paged}
+use Rattle.trials_rows.specs.Rows.{plain, D, same_number, same_options, same_memory, blank_flash, mode, speed, ack, flags, ask_ident, page, one, pair, one_page, two_pages, paged}
 use Rattle.rules.specs.StandIn.{feed, powered}
 use Rattle.rules.specs.WholeFrame.{frame_call}
 

@@ -2,22 +2,21 @@
 use mathlib.Core.Path.{◌≡◌, refl, sym}
 use mathlib.Core.Bool.{Bool, true, false, cond, ◌&&◌, false≢true}
 use mathlib.Core.List.{List, [], ◌∷◌}
-use Prim.Native.Nat.{ℕ, ◌-◌}
+use Prim.Native.Nat.{ℕ}
 use lib.Dec.{eqb}
-use lib.ListN.{length, take, drop, replicate}
+use lib.ListN.{replicate}
 use borrow.Author.Tests.{eqb-true, eq-eqb}
 use Rattle.rules.specs.declared.Chip.{Chip}
 use Rattle.rules.specs.declared.Options.{Options}
 use Rattle.rules.specs.declared.Phase.TheVariants.{Command}
-use Rattle.rules.specs.declared.Note.{Note}
-use Rattle.rules.specs.declared.Note.TheVariants.{Empty}
+use Rattle.rules.specs.Notes.{Note, Empty}
 use Rattle.rules.specs.declared.Report.{Report}
 use Rattle.rules.specs.declared.Task.TheVariants.{Idle}
 use Rattle.rules.specs.declared.numbers.Number.{Number}
-use Rattle.rules.specs.Chip.{Memory, small, same, over}
+use Rattle.rules.specs.Chip.{Memory, small, same}
 use Rattle.rules.specs.Options.{fresh_options}
 use Rattle.rules.specs.Command.{phase_number}
-use Rattle.rules.specs.StandIn.{State, Out, Outcome, outs, feed, powered, power_on, byte_call, rest}
+use Rattle.rules.specs.StandIn.{State, Out, outs, powered, power_on, byte_call, rest}
 use Rattle.rules.specs.Sheet.{verdict}
 use Rattle.rules.specs.Meaning.{Ended, meaning, step_frames}
 use Rattle.rules.specs.Numbers.{note_numbers, call_number, verdict_number, next_number, status_number}

@@ -5,8 +5,7 @@ use Rattle.rules.specs.declared.Flash.TheVariants.{Data}
 use Rattle.rules.specs.declared.Options.{Options}
 use Rattle.rules.specs.declared.Phase.TheVariants.{Command}
 use Rattle.rules.specs.declared.Task.TheVariants.{Idle}
-use Rattle.rules.specs.declared.Note.{Note}
-use Rattle.rules.specs.declared.Note.TheVariants.{Empty}
+use Rattle.rules.specs.Notes.{Note, Empty}
 use Rattle.rules.specs.declared.Player.{Player}
 use Rattle.rules.specs.declared.Report.{Report}
 use Rattle.rules.specs.declared.numbers.Number.{Number}

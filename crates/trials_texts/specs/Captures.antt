@@ -1,7 +1,6 @@
 -- 02, M-111: captures and the verdicts on them, and whether the definitions give them. Assumes nothing.
 use Rattle.std.specs.Prelude.{ℕ, Bool, true, ◌&&◌, List, [], ◌∷◌, ◌++◌, eqb, replicate}
 use Rattle.rules.specs.declared.Chip.{Chip}
-use Rattle.rules.specs.declared.Flash.TheVariants.{Data}
 use Rattle.rules.specs.declared.Options.{Options}
 use Rattle.rules.specs.declared.numbers.Number.{Number}
 use Rattle.rules.specs.Chip.{Memory, small, large, fresh_memory}

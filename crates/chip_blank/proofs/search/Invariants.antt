@@ -2,7 +2,7 @@
 use mathlib.Core.Path.{◌≡◌}
 use Prim.Native.Nat.{◌+◌, ◌-◌, ◌*◌, ◌≤◌}
 use lib.ListN.{drop}
-use Rattle.rules.specs.declared.Note.TheVariants.{Empty}
+use Rattle.rules.specs.Notes.{Empty}
 use Rattle.rules.specs.Chip.{blanks_before, block_size}
 use Rattle.chip_blank.proofs.search.Given as goal
 

@@ -1,24 +1,20 @@
 -- `chip_finder::blocks_held` meets its contract: the tests in their order. Assumes nothing.
+use Rattle.std.proofs.Common.{arith}
+use Rattle.std.proofs.lemmas.Bool.Decides.{nat_tests}
 use borrow.Author.Tests.{lt-ltb, le-ltb}
 use Rattle.chip_finder.specs.Held.{blocks_held}
+use Rattle.chip_finder.proofs.blocks_held.Goals.{then-ead-sad-via-then-ead-sad, then-ead-sad-via-else-ead-sad+then-ead-gt16777215}
 use Rattle.chip_finder.proofs.blocks_held.Goals as goal
 
 pub returns-then-ead-sad : goal.returns-then-ead-sad
 unfolding blocks_held
-returns-then-ead-sad c = rw (lt-ltb _ _ c.if-ead-sad.true)
+returns-then-ead-sad c =
+    elim c.then-ead-sad.branch [ then-ead-sad-via-then-ead-sad w ↦ rw (lt-ltb _ _ w.if-ead-sad.true) | then-ead-sad-via-else-ead-sad+then-ead-gt16777215 w ↦ rw (le-ltb _ _ w.if-ead-sad.false, lt-ltb 0xFFFFFF _ w.if-ead-gt16777215.true) ]
 
-pub returns-then-ead-gt16777215 : goal.returns-then-ead-gt16777215
+pub returns-then-sad-start_of : goal.returns-then-sad-start_of
 unfolding blocks_held
-returns-then-ead-gt16777215 c = rw (le-ltb _ _ c.if-ead-sad.false, lt-ltb 0xFFFFFF _ c.if-ead-gt16777215.true)
-
-pub returns-then-sad-lt987136 : goal.returns-then-sad-lt987136
-unfolding blocks_held
-returns-then-sad-lt987136 c =
-    let a = c.args in
-    rw (le-ltb a.ead.0 a.sad.0 c.if-ead-sad.false, le-ltb 0xFFFFFF a.ead.0 c.if-ead-gt16777215.false, lt-ltb a.sad.0 0xF1000 c.if-sad-lt987136.true) c.held_in.ensures
+returns-then-sad-start_of c = grind (arith, nat_tests)
 
 pub returns : goal.returns
 unfolding blocks_held
-returns c =
-    let a = c.args in
-    rw (le-ltb a.ead.0 a.sad.0 c.if-ead-sad.false, le-ltb 0xFFFFFF a.ead.0 c.if-ead-gt16777215.false, le-ltb a.sad.0 0xF1000 c.if-sad-lt987136.false) c.held_in-2.ensures
+returns c = grind (arith, nat_tests)

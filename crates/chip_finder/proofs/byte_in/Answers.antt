@@ -1,22 +1,20 @@
 -- `chip_finder::byte_in` meets its contract: the block of the byte that the address names, by its offset. Assumes nothing.
-use mathlib.Core.Path.{sym, ◌∙◌}
-use borrow.Author.Tests.{eq-eqb, ne_eqb}
+use Rattle.std.proofs.Common.{◌≡◌, Bool, true, false, cond, Some, None, sym, refl}
+use Rattle.std.specs.Bool.{then_some}
 use Rattle.chip_finder.specs.OneFlash.{byte_in}
 use Rattle.chip_finder.proofs.Spots.{spotted, outside}
 use Rattle.chip_finder.proofs.byte_in.Goals as goal
 
-pub returns-then-o-offset : goal.returns-then-o-offset
-unfolding byte_in
-returns-then-o-offset c =
-    let p = spotted _ _ _ _ _ _ (sym c.in-At.ensures) in
-    rw (p.within, eq-eqb _ _ (p.offset ∙ c.if-o-offset.true), p.block)
+then_cond : {X : Type 0} (t : Bool) (x : X) → then_some t x ≡ cond t (Some x) None
+then_cond true x = refl
+then_cond false x = refl
 
-pub returns-else-o-offset : goal.returns-else-o-offset
+pub returns-in_err-b : goal.returns-in_err-b
 unfolding byte_in
-returns-else-o-offset c =
-    let p = spotted _ _ _ _ _ _ (sym c.in-At.ensures) in
-    rw (p.within, ne_eqb _ _ (λ e. c.if-o-offset.false (sym p.offset ∙ e)))
+returns-in_err-b c = rw (c.from_residual.ensures, outside _ _ _ _ (sym c.in_err-b.ensures))
 
-pub returns-in-Outside : goal.returns-in-Outside
+pub returns : goal.returns
 unfolding byte_in
-returns-in-Outside c = rw (outside _ _ _ _ (sym c.in-Outside.ensures))
+returns c =
+    let p = spotted _ _ _ _ _ _ (sym c.in_ok-b.ensures) in
+    rw (c.then_some.ensures, p.within, p.offset, p.block) (then_cond _ _)

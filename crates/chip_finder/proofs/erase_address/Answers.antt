@@ -1,11 +1,12 @@
 -- `chip_finder::erase_address` meets its contract: code flash first, then data flash. Assumes nothing.
-use mathlib.Core.Path.{sym, ◌∙◌}
-use Rattle.chip_finder.proofs.Spots.{erase_code_lem, erase_data}
+use Rattle.std.proofs.Common.{◌∙◌, rules}
+use Rattle.chip_finder.specs.OneFlash.{byte_in}
+use Rattle.rules.specs.declared.Flash.TheVariants.{Data}
+use Rattle.chip_finder.proofs.Spots.{or_else_is, erase_either}
 use Rattle.chip_finder.proofs.erase_address.Goals as goal
 
-pub returns-in-In : goal.returns-in-In
-returns-in-In c = erase_code_lem _ _ _ _ (sym c.in-In.ensures)
-
-pub returns-in-Nowhere : goal.returns-in-Nowhere
-returns-in-Nowhere c =
-    c.byte_in-in-Nowhere.ensures ∙ erase_data _ _ (sym c.in-Nowhere.ensures)
+pub returns : goal.returns
+returns c =
+    let a = c.args in
+    let other = byte_in a.chip Data 0 a.a in
+    or_else_is c.byte_in.result other c.or_else.result c.or_else.ensures (λ e. search rules) ∙ rw c.byte_in.ensures (erase_either a.chip a.a)

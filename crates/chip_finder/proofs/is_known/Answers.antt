@@ -1,15 +1,11 @@
--- `chip_finder::is_known` meets its contract: it is the one chip, or asked for the other. Assumes nothing.
-use mathlib.Core.Path.{sym, ap, ◌∙◌}
-use Rattle.rules.specs.declared.Chip.{Chip}
-use Rattle.rules.specs.Chip.{same_counts}
-use Rattle.chip_finder.proofs.Known.{is_small, not_small}
+-- `chip_finder::is_known` meets its contract: the one chip or the other. Assumes nothing.
+use Rattle.rules.specs.Chip.{known}
 use Rattle.chip_finder.proofs.is_known.Goals as goal
 
 pub returns-then-same_counts : goal.returns-then-same_counts
-returns-then-same_counts c = sym (is_small _ (rw c.small.ensures at (sym c.same_counts.ensures ∙ c.if-same_counts.true)))
+unfolding known
+returns-then-same_counts c = let e = rw c.small.ensures at c.same_counts.ensures in let t = c.if-same_counts.true in rw (t, ← e, t)
 
-pub returns : goal.returns
-returns c =
-    c.same_counts-2.ensures
-    ∙ ap (λ (k : Chip). same_counts c.args.chip k) c.large.ensures
-    ∙ sym (not_small _ (rw c.small.ensures at (sym c.same_counts.ensures ∙ c.if-same_counts.false)))
+pub returns-else-same_counts : goal.returns-else-same_counts
+unfolding known
+returns-else-same_counts c = let e = rw c.small.ensures at c.same_counts.ensures in rw (← e, c.if-same_counts.false, c.same_counts-else-same_counts.ensures, c.large.ensures)

@@ -1,11 +1,12 @@
 -- `chip_finder::range` meets its contract: code flash first, then data flash. Assumes nothing.
-use mathlib.Core.Path.{sym, ◌∙◌}
-use Rattle.chip_finder.proofs.Spots.{range_code, range_data}
+use Rattle.std.proofs.Common.{◌∙◌, rules}
+use Rattle.chip_finder.specs.OneFlash.{pair_of}
+use Rattle.rules.specs.declared.Flash.TheVariants.{Data}
+use Rattle.chip_finder.proofs.Spots.{or_else_is, range_either}
 use Rattle.chip_finder.proofs.range.Goals as goal
 
-pub returns-in-Blocks : goal.returns-in-Blocks
-returns-in-Blocks c = range_code _ _ _ _ _ _ (sym c.in-Blocks.ensures)
-
-pub returns-in-Invalid : goal.returns-in-Invalid
-returns-in-Invalid c =
-    c.pair_in-in-Invalid.ensures ∙ range_data _ _ _ (sym c.in-Invalid.ensures)
+pub returns : goal.returns
+returns c =
+    let a = c.args in
+    let other = pair_of a.chip Data a.sad a.ead in
+    or_else_is c.pair_in.result other c.or_else.result c.or_else.ensures (λ e. search rules) ∙ rw c.pair_in.ensures (range_either a.chip a.sad a.ead)

@@ -4,17 +4,12 @@ use Rattle.rules.specs.Chip.{over}
 use Rattle.frame_build.specs.Buffer.{put}
 use Rattle.frame_build.proofs.Sum.{sum_byte_lem}
 use Rattle.frame_build.proofs.Buffers.{buffer_put, bytes_fit, rest_of, put_rest, frame_empty, frame_long, frame_full, frame_fits, frame_put}
+use Rattle.frame_build.proofs.put_frame.Goals.{then-n-lt1-via-then-n-lt1, then-n-lt1-via-else-n-lt1+then-n-gt256, then-n-lt1-via-else-n-lt1+else-n-gt256+then-buffer-n}
 use Rattle.frame_build.proofs.put_frame.Goals as goal
 
 pub returns-then-n-lt1 : goal.returns-then-n-lt1
-returns-then-n-lt1 c = sym (frame_empty _ _ _ _ c.if-n-lt1.true)
-
-pub returns-then-n-gt256 : goal.returns-then-n-gt256
-returns-then-n-gt256 c = sym (frame_long _ _ _ _ c.if-n-lt1.false c.if-n-gt256.true)
-
-pub returns-then-buffer-n : goal.returns-then-buffer-n
-returns-then-buffer-n c =
-    sym (frame_full _ _ _ _ c.if-n-lt1.false c.if-n-gt256.false (omega arith))
+returns-then-n-lt1 c =
+    elim c.then-n-lt1.branch [ then-n-lt1-via-then-n-lt1 w ↦ sym (frame_empty _ _ _ _ w.if-n-lt1.true) | then-n-lt1-via-else-n-lt1+then-n-gt256 w ↦ sym (frame_long _ _ _ _ w.if-n-lt1.false w.if-n-gt256.true) | then-n-lt1-via-else-n-lt1+else-n-gt256+then-buffer-n w ↦ sym (frame_full _ _ _ _ w.if-n-lt1.false w.if-n-gt256.false (omega arith)) ]
 
 pub returns : goal.returns
 returns c =

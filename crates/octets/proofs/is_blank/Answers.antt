@@ -1,19 +1,12 @@
--- `octets::is_blank` meets its contract: what is left to look at decides. Assumes nothing.
-use Rattle.std.proofs.Common.{sym, ◌∙◌, arith}
-use Rattle.octets.proofs.Lists.{blank_not, blank_more, blank_end}
+-- `octets::is_blank` meets its contract: the test of each byte. Assumes nothing.
+use Rattle.std.proofs.Common.{eqb, ◌∙◌, rules, tests}
+use Rattle.std.proofs.lemmas.Iterator.{YieldsList-from_slice}
+use Rattle.std.proofs.lemmas.Iterator.Search.{all_from_yields_List}
+use Rattle.rules.specs.Chip.{blank_byte}
+use Rattle.octets.proofs.Lists.{blank_is}
 use Rattle.octets.proofs.is_blank.Goals as goal
-
-pub returns-then-s-i : goal.returns-then-s-i
-returns-then-s-i c =
-    let l = c.loop-i in
-    sym (l.invariant.1 ∙ blank_not _ l.i (omega arith) c.if-s-i.true)
-
-pub loop-i-preserved : goal.loop-i-preserved
-loop-i-preserved c =
-    let l = c.loop-i in
-    (omega arith, l.invariant.1 ∙ blank_more _ l.i (omega arith) c.if-s-i.false)
 
 pub returns : goal.returns
 returns c =
-    let l = c.loop-i in
-    sym (l.invariant.1 ∙ blank_end _ l.i (omega arith))
+    let s = c.args.s.now in
+    all_from_yields_List (λ x. eqb x blank_byte) _ _ c.all.result c.all.ensures.ran (YieldsList-from_slice s c.iter.ensures.rest) (λ x b q k. search (rules, tests)) ∙ blank_is s

@@ -8,5 +8,5 @@ use Rattle.player_emit.proofs.emit_block.Goals as goal
 pub returns : goal.returns
 returns c =
     let a = c.args in
-    gave_put c.sending.result (block_command a.t a.p.at) a.frame.now (frame_room_lem _ _ _ a.frame.now (omega arith) c.requires.0) _ _ c.block_command-sent.ensures
+    gave_put c.sending.result (block_command a.t a.p.at) a.frame.now (frame_room_lem _ _ _ a.frame.now (omega arith) c.requires.0) _ _ c.block_command.ensures
     ∙ rw c.sending.ensures

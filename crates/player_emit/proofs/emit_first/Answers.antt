@@ -10,5 +10,5 @@ pub returns : goal.returns
 returns c =
     let a = c.args in
     let new = first_command a.t.kind a.t in
-    gave_put c.sending.result new a.frame.now (omega (arith, first_short a.t.kind a.t, c.requires)) _ _ c.first_command-sent.ensures
+    gave_put c.sending.result new a.frame.now (omega (arith, first_short a.t.kind a.t, c.requires)) _ _ c.first_command.ensures
     ∙ rw c.sending.ensures

@@ -16,4 +16,4 @@ returns c =
     let l : length (take 256 (drop from a.sheet.now)) ≡ 256 = length-take-le 256 (drop from a.sheet.now) r in
     rw k at c.put_frame.ensures
     ∙ frame_bytes _ _ (take 256 (drop from a.sheet.now)) _ (omega (arith, l)) (omega (arith, l))
-    ∙ rw (c.end_due.ensures, c.step_pages-pages.ensures.0)
+    ∙ rw (c.end_due.ensures, c.step_pages.ensures.0)

@@ -1,5 +1,5 @@
 -- `standin_command::refuse` meets its contract. Assumes nothing.
-use Rattle.standin_command.proofs.Answers.{same_out}
+use Rattle.standin_state.proofs.Handed.{same_out}
 use Rattle.standin_command.proofs.refuse.Goals as goal
 
 pub returns : goal.returns

@@ -18,5 +18,5 @@ pub returns : goal.returns
 returns c =
     let a = c.args in
     λ m reply.
-    held_as _ (a.byte ∷ []) _ reply (first_got a.held.now a.byte (omega (arith, c.requires.0)))
+    held_as _ (a.byte ∷ []) _ reply (first_got a.held.now a.byte (omega arith))
     (begun a.chip (view a.c a.held.now m) a.byte (c.if-byte-start_of.false ∙ c.start_of.ensures ∙ ap start_of c.task_now.ensures))

@@ -40,12 +40,13 @@ returns-then-have-last c =
     let xs = a.held.now in
     let k = a.c.have in
     let x = c.last_place-last in
+    let known : length a.held.now ≡ 260 = omega arith in
     let inside : k ≤ x.result = omega arith in
-    let same = same_size xs k x.result a.byte c.requires.0 c.requires.1 x.ensures.0 x.ensures.1 inside in
-    let in_buffer = fits xs k x.result a.byte c.requires.0 c.requires.1 x.ensures.0 x.ensures.1 inside in
-    let held = here xs k x.result a.byte c.requires.0 c.requires.1 x.ensures.0 x.ensures.1 inside in
-    let taken = held-so xs k x.result a.byte c.requires.0 c.requires.1 x.ensures.0 x.ensures.1 inside in
-    let no = some xs k x.result a.byte c.requires.0 c.requires.1 x.ensures.0 x.ensures.1 in
+    let same = same_size xs k x.result a.byte known c.requires x.ensures.0 x.ensures.1 inside in
+    let in_buffer = fits xs k x.result a.byte known c.requires x.ensures.0 x.ensures.1 inside in
+    let held = here xs k x.result a.byte known c.requires x.ensures.0 x.ensures.1 inside in
+    let taken = held-so xs k x.result a.byte known c.requires x.ensures.0 x.ensures.1 inside in
+    let no = some xs k x.result a.byte known c.requires x.ensures.0 x.ensures.1 in
     let short : k + 1 ≡ frame_size (len_of (set xs k a.byte)) → ⊥ = λ z. omega (arith, z, same, c.if-have-last.true) in
     λ m reply.
     held_as _ (take (k + 1) (set xs k a.byte)) _ reply
@@ -59,11 +60,12 @@ returns-then-have-last-2 c =
     let xs = a.held.now in
     let k = a.c.have in
     let x = c.last_place-last in
+    let known : length a.held.now ≡ 260 = omega arith in
     let inside : k ≤ x.result = omega arith in
-    let same = same_size xs k x.result a.byte c.requires.0 c.requires.1 x.ensures.0 x.ensures.1 inside in
-    let in_buffer = fits xs k x.result a.byte c.requires.0 c.requires.1 x.ensures.0 x.ensures.1 inside in
-    let taken = held-so xs k x.result a.byte c.requires.0 c.requires.1 x.ensures.0 x.ensures.1 inside in
-    let no = some xs k x.result a.byte c.requires.0 c.requires.1 x.ensures.0 x.ensures.1 in
+    let same = same_size xs k x.result a.byte known c.requires x.ensures.0 x.ensures.1 inside in
+    let in_buffer = fits xs k x.result a.byte known c.requires x.ensures.0 x.ensures.1 inside in
+    let taken = held-so xs k x.result a.byte known c.requires x.ensures.0 x.ensures.1 inside in
+    let no = some xs k x.result a.byte known c.requires x.ensures.0 x.ensures.1 in
     λ m.
     completed a.chip (view a.c xs m) a.byte xs k no in_buffer (ap (λ (j : ℕ). j + 1) c.if-have-last-2.true ∙ same)
     ∙ ap (λ (g : List ℕ). receive a.chip (view a.c xs m) g a.byte) (sym taken)
@@ -72,13 +74,15 @@ pub begin-requires : goal.begin-requires
 begin-requires c =
     let a = c.args in
     let x = c.last_place-last in
-    (c.requires.0, none a.held.now a.c.have x.result a.byte c.requires.0 c.requires.1 x.ensures.0 x.ensures.1 (λ l. omega (arith, l, c.if-have-last.false)) c.if-have-last-2.false)
+    let known : length a.held.now ≡ 260 = omega arith in
+    none a.held.now a.c.have x.result a.byte known c.requires x.ensures.0 x.ensures.1 (λ l. omega (arith, l, c.if-have-last.false)) c.if-have-last-2.false
 
-pub returns : goal.returns
-returns c =
+pub returns-else-have-last-2 : goal.returns-else-have-last-2
+returns-else-have-last-2 c =
     let a = c.args in
     let x = c.last_place-last in
+    let known : length a.held.now ≡ 260 = omega arith in
     λ m reply.
     c.begin.ensures m reply
     ∙ ap (λ (g : List ℕ). answered (receive a.chip (view a.c a.held.now m) g a.byte) reply)
-    (sym (none a.held.now a.c.have x.result a.byte c.requires.0 c.requires.1 x.ensures.0 x.ensures.1 (λ l. omega (arith, l, c.if-have-last.false)) c.if-have-last-2.false))
+    (sym (none a.held.now a.c.have x.result a.byte known c.requires x.ensures.0 x.ensures.1 (λ l. omega (arith, l, c.if-have-last.false)) c.if-have-last-2.false))

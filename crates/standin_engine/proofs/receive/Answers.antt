@@ -11,27 +11,27 @@ use Rattle.standin_engine.specs.View.{view, held_count}
 use Rattle.standin_engine.proofs.Receives.{held_small, held_is, held_as, none_got, continued, still_short}
 use Rattle.standin_engine.proofs.receive.Goals as goal
 
-pub returns-then-have-eq1 : goal.returns-then-have-eq1
-returns-then-have-eq1 c =
+pub returns-in-1 : goal.returns-in-1
+returns-in-1 c =
     let a = c.args in
     let xs = a.held.now in
     let len = len_of (set xs 1 a.byte) in
     let some : ◌≡◌ {A = ℕ} 1 0 → ⊥ = λ z. omega arith in
-    let fits : 1 < length xs = omega (arith, c.requires) in
+    let fits : 1 < length xs = omega arith in
     let here : 1 ≡ held_count 1 xs = held_small 1 xs (omega arith) in
     let short : 1 + 1 ≡ frame_size len → ⊥ = λ z. omega (arith, frame_size_lem len, body_least len) in
     λ m reply.
     held_as _ (take 2 (set xs 1 a.byte)) _ reply
     (held_is 2 2 (set xs 1 a.byte) (still_short xs 1 a.byte 1 fits here some short))
     (continued a.chip (view a.c xs m) a.byte xs 1 some fits short)
-    ∙ ap (λ (g : List ℕ). answered (receive a.chip (view a.c xs m) g a.byte) reply) (sym (ap (λ (k : ℕ). received k xs) c.if-have-eq1.true ∙ held_is 1 1 xs here))
+    ∙ ap (λ (g : List ℕ). answered (receive a.chip (view a.c xs m) g a.byte) reply) (sym (ap (λ (k : ℕ). received k xs) c.in-1.is ∙ held_is 1 1 xs here))
 
 pub begin-requires : goal.begin-requires
-begin-requires c = (c.requires, none_got _ _ (omega arith))
+begin-requires c = none_got _ _ c.in-0.is
 
-pub returns : goal.returns
-returns c =
+pub returns-in-0 : goal.returns-in-0
+returns-in-0 c =
     let a = c.args in
     λ m reply.
     c.begin.ensures m reply
-    ∙ ap (λ (g : List ℕ). answered (receive a.chip (view a.c a.held.now m) g a.byte) reply) (sym (none_got a.c.have a.held.now (omega arith)))
+    ∙ ap (λ (g : List ℕ). answered (receive a.chip (view a.c a.held.now m) g a.byte) reply) (sym (none_got a.c.have a.held.now c.in-0.is))

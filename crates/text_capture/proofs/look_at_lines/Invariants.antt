@@ -2,7 +2,7 @@
 use mathlib.Core.Path.{◌≡◌}
 use mathlib.Core.List.{[]}
 use Prim.Native.Nat.{◌-◌, ◌≤◌}
-use lib.ListN.{length, take, drop}
+use lib.ListN.{length}
 use Rattle.rules.specs.Lines.{lines_of}
 use Rattle.rules.specs.Capture.{heard, hears, judged}
 use Rattle.chip_finder.specs.LentFlashes.{memory}
@@ -12,14 +12,12 @@ use Rattle.text_capture.proofs.look_at_lines.Given as goal
 
 abbrev pub invariant-loop-at : goal.invariant-loop-at
 invariant-loop-at l =
-    (l.from ≤ l.to)
-    × (l.to ≤ length l.text)
-    × (l.at ≤ length l.text)
+    (l.at ≤ length l.text)
     × (l.done ≤ l.at)
     × (length l.code ≡ length l.initial.code)
     × (length l.data ≡ length l.initial.data)
     × (length l.text ≤ 9223372036854775807)
-    × (judged l.chip (lines_of l.text).ended (lines_of l.text).rest 0 (heard (view l.initial.core l.initial.held (memory l.initial.code l.initial.data)) []) ≡ onward l.chip l.text l.at l.done (hears l.chip (view l.core l.held (memory l.code l.data)) (take (l.to - l.from) (drop l.from l.text))))
+    × (judged l.chip (lines_of l.text).ended (lines_of l.text).rest 0 (heard (view l.initial.core l.initial.held (memory l.initial.code l.initial.data)) []) ≡ onward l.chip l.text l.at l.done (hears l.chip (view l.core l.held (memory l.code l.data)) l.before))
 
 abbrev pub decreases-loop-at : goal.decreases-loop-at
 decreases-loop-at l =

@@ -4,10 +4,10 @@ use Rattle.chip_finder.specs.LentFlashes.{memory}
 use Rattle.text_capture.proofs.Judging.{captured_refused, captured_taken, numbered}
 use Rattle.text_capture.proofs.look_over.Goals as goal
 
-pub returns-in-Refused : goal.returns-in-Refused
-returns-in-Refused c =
+pub returns-in-Err : goal.returns-in-Err
+returns-in-Err c =
     let a = c.args in
-    let e = numbered _ _ (sym (captured_refused a.chip a.options (memory a.code.now a.«data».now) a.text.now c.in-Refused.refusal (sym c.flash_verdict.ensures ∙ c.in-Refused.is))) in
+    let e = numbered _ _ (sym (captured_refused a.chip a.options (memory a.code.now a.«data».now) a.text.now c.in-Err.refusal (sym c.flash_verdict.ensures ∙ c.in-Err.is))) in
     record { data_after = e.0; verdict_value = e.1; verdict_value_2 = e.2 }
 
 pub returns : goal.returns

@@ -15,7 +15,7 @@ pub returns-then-n-eq0 : goal.returns-then-n-eq0
 returns-then-n-eq0 c =
     let a = c.args in
     let bs = pair_bytes a.row.now in
-    let h = data_length bs c.requires.row_len.0 in
+    let h = data_length bs c.requires.row_len in
     let m = memory a.code.now a.«data».now in
     λ u. sym (at_none a.number a.address (data_of bs) u m (omega arith))
 
@@ -23,7 +23,7 @@ pub returns-then-address-n-le-CODE_SIZE : goal.returns-then-address-n-le-CODE_SI
 returns-then-address-n-le-CODE_SIZE c =
     let a = c.args in
     let bs = pair_bytes a.row.now in
-    let h = data_length bs c.requires.row_len.0 in
+    let h = data_length bs c.requires.row_len in
     let m = memory a.code.now a.«data».now in
     let some : length (data_of bs) ≡ 0 → ⊥ = λ z. omega arith in
     let i = c.bytes_in in
@@ -34,7 +34,7 @@ pub returns-then-address-lt-DATA_START : goal.returns-then-address-lt-DATA_START
 returns-then-address-lt-DATA_START c =
     let a = c.args in
     let bs = pair_bytes a.row.now in
-    let h = data_length bs c.requires.row_len.0 in
+    let h = data_length bs c.requires.row_len in
     let m = memory a.code.now a.«data».now in
     let some : length (data_of bs) ≡ 0 → ⊥ = λ z. omega arith in
     λ u. sym (at_gap a.number a.address (data_of bs) u m some (omega arith) (omega arith))
@@ -43,7 +43,7 @@ pub returns-then-address-n : goal.returns-then-address-n
 returns-then-address-n c =
     let a = c.args in
     let bs = pair_bytes a.row.now in
-    let h = data_length bs c.requires.row_len.0 in
+    let h = data_length bs c.requires.row_len in
     let m = memory a.code.now a.«data».now in
     let some : length (data_of bs) ≡ 0 → ⊥ = λ z. omega arith in
     let i = c.bytes_in-then-address-n in
@@ -54,7 +54,7 @@ pub returns : goal.returns
 returns c =
     let a = c.args in
     let bs = pair_bytes a.row.now in
-    let h = data_length bs c.requires.row_len.0 in
+    let h = data_length bs c.requires.row_len in
     let m = memory a.code.now a.«data».now in
     let some : length (data_of bs) ≡ 0 → ⊥ = λ z. omega arith in
     λ u. sym (at_end a.number a.address (data_of bs) u m some (omega arith) (omega arith))

@@ -12,8 +12,6 @@ invariant-loop-at l =
     (l.at ≤ length l.text)
     × (l.done ≤ l.at)
     × (l.upper < 65536)
-    × (length l.code ≡ 32768)
-    × (length l.data ≡ 2048)
     × (hex_read l.text (memory l.initial.code l.initial.data) ≡ onward l.text l.at l.done l.upper (memory l.code l.data))
 
 abbrev pub decreases-loop-at : goal.decreases-loop-at

@@ -8,7 +8,7 @@ use Rattle.rules.specs.declared.Chip.{Chip}
 use Rattle.chip_finder.specs.LentFlashes.{memory}
 use Rattle.standin.specs.Shows.{shows}
 use Rattle.text_serve.specs.Serving.{serve_from}
-use Rattle.text_serve.proofs.Turns.{numbered, turn_end, turn_stop, turn_on}
+use Rattle.text_serve.proofs.Turns.{numbered, turn_stop, turn_on}
 use Rattle.text_serve.proofs.serve.Goals as goal
 
 pub loop-i-preserved : goal.loop-i-preserved
@@ -39,15 +39,4 @@ returns-then-ends-clause-call_value c =
     let t = c.byte_call-t in
     let l = c.loop-i in
     let e = numbered _ _ (turn_stop _ _ l.reply l.i c.args.bytes.now c.loop-i-test.true _ _ _ _ t.ensures.reply_after (sym c.ends.ensures ∙ c.if-ends.true) ∙ l.invariant.0) in
-    e.1
-
-pub returns-clause-reply_after : goal.returns-clause-reply_after
-returns-clause-reply_after c =
-    let l = c.loop-i in
-    turn_end l.device.chip _ l.reply l.i c.args.bytes.now c.loop-i-test.false ∙ l.invariant.0
-
-pub returns-clause-call_value : goal.returns-clause-call_value
-returns-clause-call_value c =
-    let l = c.loop-i in
-    let e = numbered _ _ (turn_end l.device.chip _ l.reply l.i c.args.bytes.now c.loop-i-test.false ∙ l.invariant.0) in
     e.1

@@ -1,6 +1,6 @@
 -- `text_serve::serve` meets its contract. Assumes nothing.
 use mathlib.Core.Path.{◌≡◌}
-use Prim.Native.Nat.{◌-◌, ◌≤◌}
+use Prim.Native.Nat.{◌≤◌}
 use lib.ListN.{length, drop}
 use Rattle.chip_finder.specs.LentFlashes.{memory}
 use Rattle.standin.specs.Shows.{shows}
@@ -16,6 +16,3 @@ invariant-loop-i l =
     × (length l.code ≡ length l.initial.code)
     × (length l.data ≡ length l.initial.data)
     × (length l.reply ≡ length l.initial.reply)
-
-abbrev pub decreases-loop-i : goal.decreases-loop-i
-decreases-loop-i l = length l.bytes - l.i

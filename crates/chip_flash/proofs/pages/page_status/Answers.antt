@@ -6,8 +6,8 @@ use Rattle.chip_flash.proofs.pages.page_status.Goals as goal
 pub returns-then-guarded : goal.returns-then-guarded
 returns-then-guarded c = status_guarded _ _ c.if-guarded.true
 
-pub returns-then-not-blank : goal.returns-then-not-blank
-returns-then-not-blank c = status_used _ _ c.if-guarded.false (sym c.is_blank-blank.ensures ∙ c.if-not-blank.true)
+pub returns-then-is_blank : goal.returns-then-is_blank
+returns-then-is_blank c = status_well _ _ c.if-guarded.false (sym c.is_blank.ensures ∙ c.if-is_blank.true)
 
-pub returns : goal.returns
-returns c = status_well _ _ c.if-guarded.false (sym c.is_blank-blank.ensures ∙ c.if-not-blank.false)
+pub returns-else-is_blank : goal.returns-else-is_blank
+returns-else-is_blank c = status_used _ _ c.if-guarded.false (sym c.is_blank.ensures ∙ c.if-is_blank.false)

@@ -10,29 +10,29 @@ pub returns-in_default : goal.returns-in_default
 returns-in_default c = program_missing _ _ _ _ _ (sym c.page_place.ensures ∙ c.in_default.is)
 
 pub slice_bounds-page_status-count : goal.slice_bounds-page_status-count
-slice_bounds-page_status-count c = (placed _ _ _ _ _ (sym c.in-Bytes.ensures)).forward
+slice_bounds-page_status-count c = (placed _ _ _ _ _ (sym c.in-Some.ensures)).forward
 
 pub slice_bounds-page_status-start : goal.slice_bounds-page_status-start
-slice_bounds-page_status-start c = (placed _ _ _ _ _ (sym c.in-Bytes.ensures)).forward
+slice_bounds-page_status-start c = (placed _ _ _ _ _ (sym c.in-Some.ensures)).forward
 
 pub slice_bounds-page_status-end : goal.slice_bounds-page_status-end
-slice_bounds-page_status-end c = (placed _ _ _ _ _ (sym c.in-Bytes.ensures)).room
+slice_bounds-page_status-end c = (placed _ _ _ _ _ (sym c.in-Some.ensures)).room
 
 pub returns-then-status-ne6 : goal.returns-then-status-ne6
-returns-then-status-ne6 c = program_left _ _ _ _ _ (placed _ _ _ _ _ (sym c.in-Bytes.ensures)) _ c.page_status-status.ensures c.if-status-ne6.true
+returns-then-status-ne6 c = program_left _ _ _ _ _ (placed _ _ _ _ _ (sym c.in-Some.ensures)) _ c.page_status-status.ensures c.if-status-ne6.true
 
 pub slice_bounds-part-count : goal.slice_bounds-part-count
-slice_bounds-part-count c = let p = placed _ _ _ _ _ (sym c.in-Bytes.ensures) in omega (arith, p.forward, p.room)
+slice_bounds-part-count c = let p = placed _ _ _ _ _ (sym c.in-Some.ensures) in omega (arith, p.forward, p.room)
 
 pub slice_bounds-part-start : goal.slice_bounds-part-start
-slice_bounds-part-start c = let p = placed _ _ _ _ _ (sym c.in-Bytes.ensures) in omega (arith, p.forward, p.room)
+slice_bounds-part-start c = let p = placed _ _ _ _ _ (sym c.in-Some.ensures) in omega (arith, p.forward, p.room)
 
 pub slice_bounds-part-end : goal.slice_bounds-part-end
-slice_bounds-part-end c = let p = placed _ _ _ _ _ (sym c.in-Bytes.ensures) in omega (arith, p.forward, p.room)
+slice_bounds-part-end c = let p = placed _ _ _ _ _ (sym c.in-Some.ensures) in omega (arith, p.forward, p.room)
 
 pub returns : goal.returns
 returns c =
-    let p = placed _ _ _ _ _ (sym c.in-Bytes.ensures) in
+    let p = placed _ _ _ _ _ (sym c.in-Some.ensures) in
     let s = cut_length _ _ _ p in
     let h = c.page_for_writing-page.ensures.value s in
     let l = ap length (ap (λ x. x.now) h) ∙ s ∙ sym c.body_of-body.ensures.result_len in

@@ -6,6 +6,7 @@ use lib.Dec.{eqb}
 use Rattle.rules.specs.declared.Block.{Block}
 use Rattle.rules.specs.declared.Options.{Options}
 use Rattle.rules.specs.Options.{BTPR, SEPR, WRPR, IDEN, SWPR, CMPR, FSPR, FSWC, FSWS, FSWE, blank_options}
+use Rattle.chip_options.proofs.read.blank_options.Goals.{then-blank_sf1, else-blank_sf1, then-blank_sf2, else-blank_sf2}
 use Rattle.chip_options.proofs.read.blank_options.Goals as goal
 
 in-groups : (a b c d e f g h i j : Bool)
@@ -40,27 +41,16 @@ module _ (o : Options) where
 windowed : {a b : Block} {m n : ℕ} → a ≡ b → m ≡ n → (eqb a.0 511 && eqb m 1) ≡ (eqb b.0 511 && eqb n 1)
 windowed p q = rw (p, q)
 
-pub returns-then-not-blank_sf1 : goal.returns-then-not-blank_sf1
-returns-then-not-blank_sf1 c =
-    let a = c.blank_sf1 in
-    rw (grouped c.args.o, ← a.ensures, c.if-not-blank_sf1.true)
+pub returns-then-blank_window : goal.returns-then-blank_window
+returns-then-blank_window c =
+    let o = c.args.o in
+    let flags : c.if-blank_sf1.value ≡ (sf1s o && sf2s o) = elim c.if-blank_sf1.branch [ then-blank_sf1 w ↦ w.value-is ∙ rw (← c.blank_sf1.ensures, w.if-blank_sf1.true) w.blank_sf2.ensures | else-blank_sf1 w ↦ w.value-is ∙ rw (← c.blank_sf1.ensures, w.if-blank_sf1.false) ] in
+    let front : c.if-blank_sf2.value ≡ (sf1s o && sf2s o && starts o) = elim c.if-blank_sf2.branch [ then-blank_sf2 w ↦ w.value-is ∙ rw (← flags, w.if-blank_sf2.true) (w.blank_window.ensures ∙ windowed w.fsws.ensures w.fspr.ensures) | else-blank_sf2 w ↦ w.value-is ∙ rw (← flags, w.if-blank_sf2.false) ] in
+    rw (grouped o, ← front, c.if-blank_window.true) (c.blank_window-then-blank_window.ensures ∙ windowed c.fswe.ensures c.fswc.ensures)
 
-pub returns-then-not-blank_sf2 : goal.returns-then-not-blank_sf2
-returns-then-not-blank_sf2 c =
-    let a = c.blank_sf1 in
-    let b = c.blank_sf2 in
-    rw (grouped c.args.o, ← a.ensures, c.if-not-blank_sf1.false, ← b.ensures, c.if-not-blank_sf2.true)
-
-pub returns-then-not-blank_window : goal.returns-then-not-blank_window
-returns-then-not-blank_window c =
-    let a = c.blank_sf1 in
-    let b = c.blank_sf2 in
-    let s = c.blank_window.ensures ∙ windowed c.fsws.ensures c.fspr.ensures in
-    rw (grouped c.args.o, ← a.ensures, c.if-not-blank_sf1.false, ← b.ensures, c.if-not-blank_sf2.false, ← s, c.if-not-blank_window.true)
-
-pub returns : goal.returns
-returns c =
-    let a = c.blank_sf1 in
-    let b = c.blank_sf2 in
-    let s = c.blank_window.ensures ∙ windowed c.fsws.ensures c.fspr.ensures in
-    rw (grouped c.args.o, ← a.ensures, c.if-not-blank_sf1.false, ← b.ensures, c.if-not-blank_sf2.false, ← s, c.if-not-blank_window.false, c.blank_window-2.ensures ∙ windowed c.fswe.ensures c.fswc.ensures)
+pub returns-else-blank_window : goal.returns-else-blank_window
+returns-else-blank_window c =
+    let o = c.args.o in
+    let flags : c.if-blank_sf1.value ≡ (sf1s o && sf2s o) = elim c.if-blank_sf1.branch [ then-blank_sf1 w ↦ w.value-is ∙ rw (← c.blank_sf1.ensures, w.if-blank_sf1.true) w.blank_sf2.ensures | else-blank_sf1 w ↦ w.value-is ∙ rw (← c.blank_sf1.ensures, w.if-blank_sf1.false) ] in
+    let front : c.if-blank_sf2.value ≡ (sf1s o && sf2s o && starts o) = elim c.if-blank_sf2.branch [ then-blank_sf2 w ↦ w.value-is ∙ rw (← flags, w.if-blank_sf2.true) (w.blank_window.ensures ∙ windowed w.fsws.ensures w.fspr.ensures) | else-blank_sf2 w ↦ w.value-is ∙ rw (← flags, w.if-blank_sf2.false) ] in
+    rw (grouped o, ← front, c.if-blank_window.false)

@@ -4,4 +4,4 @@ use Rattle.chip_options.proofs.read.shown_fswe.Goals as goal
 
 pub returns : goal.returns
 unfolding shownFSWE
-returns c = rw (c.shown_end.ensures, c.last_code_block-last.ensures, c.fswe-stored.ensures)
+returns c = rw (c.shown_end.ensures, c.last_code_block-last.ensures, c.fswe.ensures)

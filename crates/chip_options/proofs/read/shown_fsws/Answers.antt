@@ -4,4 +4,4 @@ use Rattle.chip_options.proofs.read.shown_fsws.Goals as goal
 
 pub returns : goal.returns
 unfolding shownFSWS
-returns c = rw (c.shown_end.ensures, c.fsws-stored.ensures)
+returns c = rw (c.shown_end.ensures, c.fsws.ensures)

@@ -1,20 +1,8 @@
 -- `joined::stepping::step_through` meets its contract: the run of the step leads to every turn. Assumes nothing.
-use mathlib.Core.Path.{◌≡◌}
-use Prim.Native.Nat.{◌-◌, ◌≤◌}
-use lib.ListN.{length}
 use Rattle.joined.specs.Rigs.{rigged}
 use Rattle.joined.proofs.Within.{Within}
 use Rattle.joined.proofs.stepping.step_through.Given as goal
 
-abbrev pub invariant-loop-i : goal.invariant-loop-i
-invariant-loop-i l =
-    (Within l.chip l.sheet (rigged l.initial.rig l.initial.held l.initial.code l.initial.data l.initial.reply l.initial.frame l.initial.sums) l.most l.i (rigged l.rig l.held l.code l.data l.reply l.frame l.sums))
-    × (length l.code ≡ length l.initial.code)
-    × (length l.data ≡ length l.initial.data)
-    × (length l.reply ≡ length l.initial.reply)
-    × (length l.frame ≡ length l.initial.frame)
-    × (length l.sums ≡ length l.initial.sums)
-    × (l.most ≤ 524289)
-
-abbrev pub decreases-loop-i : goal.decreases-loop-i
-decreases-loop-i l = l.most - l.i
+abbrev pub invariant-loop-turn : goal.invariant-loop-turn
+invariant-loop-turn l =
+    Within l.chip l.sheet (rigged l.initial.rig l.initial.held l.initial.code l.initial.data l.initial.reply l.initial.frame l.initial.sums) l.most l._turn (rigged l.rig l.held l.code l.data l.reply l.frame l.sums)

@@ -1,85 +1,59 @@
 -- `joined::whole::steps_through` meets its contract: the run of the sheet leads to every step. Assumes nothing.
-use mathlib.Core.Path.{◌≡◌, refl, sym, ap, ◌∙◌}
+use mathlib.Core.Path.{sym, ap, ◌∙◌}
+use mathlib.Core.List.{List, ◌++◌}
+use Prim.Native.Nat.{ℕ, ◌<◌}
 use native.Mathlib.Omega.{arith}
-use lib.ListN.{length, set}
-use borrow.Author.Rules.{rules}
-use Rattle.rules.specs.Run.{Joined, taken_in}
+use lib.ListN.{length, set, drop, take-append-drop, length-set}
+use lib.Seq.{length-take-le}
+use Rattle.std.proofs.lemmas.List.{set-append_left, set-get_or}
 use Rattle.joined.specs.Rigs.{rigged}
-use Rattle.joined.specs.Turn.{Rooms}
-use Rattle.joined.proofs.Through.{first_call, ended_as, opening, told_over, all_done, may_start, step_done_lem}
+use Rattle.joined.proofs.Within.{few_steps, rooms_kept}
+use Rattle.joined.proofs.Through.{opened, ended, told_over, all_done, may_start, step_done_lem}
 use Rattle.joined.proofs.whole.steps_through.Goals as goal
 
-pub loop-i-init : goal.loop-i-init
-loop-i-init c =
+pub slice_bounds-took-items-end : goal.slice_bounds-took-items-end
+slice_bounds-took-items-end c = omega (arith, few_steps _ _ _ c.requires.rooms, c.count-n.ensures.0)
+
+pub loop-took-init : goal.loop-took-init
+loop-took-init c =
     let a = c.args in
-    let t = c.absorb-begun in
-    let start : Joined = rigged a.r a.held.now a.code.now a.«data».now a.reply.now a.frame.now a.sums.now in
-    let first : Joined =
-    rigged (record { player = t.result; core = a.r.core; arrived = a.r.arrived }) a.held.now a.code.now a.«data».now a.reply.now a.frame.now t.new.sums in
-    let called : first ≡ taken_in a.chip a.sheet.now start = first_call a.chip a.sheet.now start c.requires.fresh _ _ _ t.ensures in
-    let o = c.requires in
-    let kept : length t.new.sums ≡ length a.sums.now = search rules in
-    let rooms : Rooms a.chip a.sheet.now first =
-    record { accepted = rw kept o.rooms.accepted; frame = o.rooms.frame; reply = o.rooms.reply } in
-    (opening _ _ start o first called rooms _, refl, refl, refl, refl, refl, c.count-n.ensures.0, c.count-n.ensures.1)
+    let t = c.absorb-begun in (
+      rw (take-append-drop c.count-n.result a.each.now) (opened a.chip a.sheet.now (rigged a.r a.held.now a.code.now a.«data».now a.reply.now a.frame.now a.sums.now) _ _ _ t.ensures c.requires t.auto.sums a.each.now),
+      c.count-n.ensures.0,
+      length-take-le c.count-n.result a.each.now (omega (arith, few_steps _ _ _ c.requires.rooms, c.count-n.ensures.0, c.told-each)),
+    )
 
 pub returns-then-is_over : goal.returns-then-is_over
 returns-then-is_over c =
     let a = c.args in
-    let t = c.absorb-begun in
-    let start : Joined = rigged a.r a.held.now a.code.now a.«data».now a.reply.now a.frame.now a.sums.now in
-    let first : Joined =
-    rigged (record { player = t.result; core = a.r.core; arrived = a.r.arrived }) a.held.now a.code.now a.«data».now a.reply.now a.frame.now t.new.sums in
-    let called : first ≡ taken_in a.chip a.sheet.now start = first_call a.chip a.sheet.now start c.requires.fresh _ _ _ t.ensures in
-    let v = c.loop-i.invariant in
-    let e = told_over _ _ _ _ _ _ _ v.0 (omega (arith, c.loop-i-test.true, v.6)) (sym c.if-is_over.ensures) in
-    ended_as _ _ start first called refl _ _ _ e.0 e.1
+    let l = c.loop-took in
+    let v = l.invariant in
+    let e = told_over _ _ _ _ _ _ _ v.0 (omega (arith, c.loop-took-test.true, v.1, v.2)) (sym c.if-is_over.ensures) in
+    ended a.chip a.sheet.now (rigged a.r a.held.now a.code.now a.«data».now a.reply.now a.frame.now a.sums.now) _ _ _ c.absorb-begun.ensures c.requires.fresh _ _ _ e.0
+    (ap (λ (xs : List ℕ). xs ++ drop c.count-n.result a.each.now) (set-get_or l.took-items l.took-index 0) ∙ e.1)
 
 pub step_through-rig-requires : goal.step_through-rig-requires
 step_through-rig-requires c =
-    let v = c.loop-i.invariant in
-    may_start _ _ _ _ _ _ _ v.0 (omega (arith, c.loop-i-test.true, v.6)) (sym c.if-is_over.ensures)
+    let v = c.loop-took.invariant in
+    may_start _ _ _ _ _ _ _ v.0 (omega (arith, c.loop-took-test.true, v.1, v.2)) (sym c.if-is_over.ensures)
 
-pub overflow_add-i : goal.overflow_add-i
-overflow_add-i c = record { fits = omega (arith, c.loop-i-test.true, c.loop-i.invariant.7) }
-
-pub loop-i-preserved : goal.loop-i-preserved
-loop-i-preserved c =
-    let l = c.loop-i in
+pub loop-took-preserved : goal.loop-took-preserved
+loop-took-preserved c =
+    let l = c.loop-took in
     let v = l.invariant in
     let a = c.args in
     let t = c.step_through-rig in
-    -- the lent buffers keep their lengths
-    let kept_code : length t.new.code ≡ length l.code = search rules in
-    let kept_data : length t.new.«data» ≡ length l.«data» = search rules in
-    let kept_reply : length t.new.reply ≡ length l.reply = search rules in
-    let kept_frame : length t.new.frame ≡ length l.frame = search rules in
-    let kept_sums : length t.new.sums ≡ length l.sums = search rules in
-    let rooms : Rooms a.chip a.sheet.now (rigged t.result t.new.held t.new.code t.new.«data» t.new.reply t.new.frame t.new.sums) =
-    record {
-      accepted = rw kept_sums v.0.rooms.accepted;
-      frame = rw kept_frame v.0.rooms.frame;
-      reply = rw kept_reply v.0.rooms.reply;
-    } in (
-      step_done_lem _ _ _ _ _ _ _ v.0 (omega (arith, c.loop-i-test.true, v.6)) (sym c.if-is_over.ensures) _ t.ensures rooms _
-          (c.put_frames.ensures ∙ ap (set l.each l.i) c.grown.ensures),
-      kept_code ∙ v.1,
-      kept_data ∙ v.2,
-      kept_reply ∙ v.3,
-      kept_frame ∙ v.4,
-      kept_sums ∙ v.5,
-      v.6,
-      v.7,
+    let lt : l.took-index < length l.took-items = omega (arith, c.loop-took-test.true, v.2) in
+    let put = sym (set-append_left l.took-items (drop c.count-n.result a.each.now) l.took-index c.saturating_sub.result lt) in (
+      step_done_lem _ _ _ _ _ _ _ v.0 (omega (arith, c.loop-took-test.true, v.1, v.2)) (sym c.if-is_over.ensures) _ t.ensures (rooms_kept _ _ _ _ v.0.rooms t.auto.sums t.auto.frame t.auto.reply) _
+          (put ∙ ap (set (l.took-items ++ drop c.count-n.result a.each.now) l.took-index) c.saturating_sub.ensures),
+      v.1,
+      length-set l.took-items l.took-index c.saturating_sub.result ∙ v.2,
     )
 
 pub returns : goal.returns
 returns c =
     let a = c.args in
-    let t = c.absorb-begun in
-    let start : Joined = rigged a.r a.held.now a.code.now a.«data».now a.reply.now a.frame.now a.sums.now in
-    let first : Joined =
-    rigged (record { player = t.result; core = a.r.core; arrived = a.r.arrived }) a.held.now a.code.now a.«data».now a.reply.now a.frame.now t.new.sums in
-    let called : first ≡ taken_in a.chip a.sheet.now start = first_call a.chip a.sheet.now start c.requires.fresh _ _ _ t.ensures in
-    let v = c.loop-i.invariant in
-    let e = all_done _ _ _ _ _ _ _ v.0 (omega (arith, c.loop-i-test.false, v.6)) in
-    ended_as _ _ start first called refl _ _ _ e.0 e.1
+    let v = c.loop-took.invariant in
+    let e = all_done _ _ _ _ _ _ _ v.0 (omega (arith, c.loop-took-test.false, v.1, v.2)) in
+    ended a.chip a.sheet.now (rigged a.r a.held.now a.code.now a.«data».now a.reply.now a.frame.now a.sums.now) _ _ _ c.absorb-begun.ensures c.requires.fresh _ _ _ e.0 e.1

@@ -1,9 +1,6 @@
--- `serve::stream::serve_read` is safe and ends: each turn takes a byte.
-use Rattle.std.proofs.Common.{length, ◌-◌, ◌≤◌}
+-- `serve::stream::serve_read` ends: each turn takes a byte.
+use Rattle.std.proofs.Common.{length}
 use Rattle.serve.proofs.stream.serve_read.Given as goal
 
-abbrev pub invariant-loop-at : goal.invariant-loop-at
-invariant-loop-at g l = l.at ≤ length l.bytes
-
-abbrev pub decreases-loop-at : goal.decreases-loop-at
-decreases-loop-at g l = length l.bytes - l.at
+abbrev pub decreases-loop-left : goal.decreases-loop-left
+decreases-loop-left g l = length l.left

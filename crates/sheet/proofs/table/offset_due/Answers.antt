@@ -1,16 +1,17 @@
 -- `sheet::table::offset_due` meets its contract: the end of the table, or that of the body before. Assumes nothing.
-use mathlib.Core.Path.{sym, ◌∙◌}
-use Prim.Native.Nat.{◌-◌}
+use mathlib.Core.Path.{sym, ap, ◌∙◌}
+use native.Mathlib.Omega.{arith}
+use Rattle.rules.specs.Sheet.{body_end}
 use Rattle.sheet.proofs.Fields.{says, due_first, due_later}
 use Rattle.sheet.proofs.table.offset_due.Goals as goal
 
-pub returns-then-i-eq0 : goal.returns-then-i-eq0
-returns-then-i-eq0 c =
+pub returns-in-Some : goal.returns-in-Some
+returns-in-Some c =
     let a = c.args in
-    c.table_end.ensures ∙ sym (due_first a.sheet.now a.i c.if-i-eq0.true)
+    let e = says a.sheet.now c.in-Some.before c.entry_at.result c.entry_at.ensures in
+    c.body_end.ensures ∙ e.end ∙ ap (body_end a.sheet.now) c.in-Some.ensures.1 ∙ sym (due_later a.sheet.now a.i (λ z. omega (arith, c.in-Some.ensures.0)))
 
-pub returns : goal.returns
-returns c =
+pub returns-in-None : goal.returns-in-None
+returns-in-None c =
     let a = c.args in
-    let e = says a.sheet.now (a.i - 1) c.entry_at-before.result c.entry_at-before.ensures in
-    c.body_end.ensures ∙ e.end ∙ sym (due_later a.sheet.now a.i c.if-i-eq0.false)
+    c.table_end.ensures ∙ sym (due_first a.sheet.now a.i (omega (arith, c.in-None.ensures)))

@@ -1,44 +1,34 @@
 -- `sheet::twice::any_taken` meets its contract: the marks are those of the entries passed, and the entries that are left decide. Assumes nothing.
-use mathlib.Core.Path.{refl, sym}
+use mathlib.Core.Path.{sym}
 use native.Mathlib.Omega.{arith}
 use Rattle.sheet.proofs.Marks.{Asked, going_first, going_next, ends_again, goes_on_lem, ends_once}
 use Rattle.sheet.proofs.twice.any_taken.Goals as goal
 
-pub loop-i-init : goal.loop-i-init
-loop-i-init c =
-    (omega arith, c.requires.0, c.requires.1, c.requires.2, refl, refl, λ a. going_first _ _ _ _ _ a)
+pub loop-e-init : goal.loop-e-init
+loop-e-init c = λ s asked. going_first s _ _ _ asked
 
 pub returns-then-entry_taken : goal.returns-then-entry_taken
-returns-then-entry_taken c = λ head n accepted code dat.
-    let l = c.loop-i in
+returns-then-entry_taken c = λ s table accepted code dat.
+    let l = c.loop-e in
     let a = c.args in
-    let asked : Asked a.sheet.now a.head a.n a.code.now a.«data».now = record { head_is = head; count_is = n; accepted = accepted; code_free = code; data_free = dat } in
-    let going = l.invariant.6 asked in
+    let asked : Asked s a.table.now a.code.now a.«data».now = record { table_is = table; accepted = accepted; code_free = code; data_free = dat } in
+    let going = l.invariant s asked in
     sym
-    (ends_again a.sheet.now a.head a.n a.code.now a.«data».now asked l.i _ going (omega arith) _
-    (going_next a.sheet.now a.head a.n a.code.now a.«data».now asked l.i _ going (omega arith) _ c.entry_taken.ensures)
+    (ends_again s _ _ _ asked l.e-index _ going (omega arith) _
+    (going_next s _ _ _ asked l.e-index _ going (omega arith) _ _ c.whole_entry.ensures c.entry_taken.ensures)
     c.if-entry_taken.true)
 
-pub loop-i-preserved : goal.loop-i-preserved
-loop-i-preserved c =
-    let l = c.loop-i in
-    let a = c.args in (
-      omega arith,
-      l.invariant.1,
-      l.invariant.2,
-      l.invariant.3,
-      omega (arith, l.invariant.4),
-      omega (arith, l.invariant.5),
-      λ asked.
-          let going = l.invariant.6 asked in
-          goes_on_lem a.sheet.now a.head a.n a.code.now a.«data».now asked l.i _ going (omega arith) _
-          (going_next a.sheet.now a.head a.n a.code.now a.«data».now asked l.i _ going (omega arith) _ c.entry_taken.ensures)
-          c.if-entry_taken.false,
-    )
+pub loop-e-preserved : goal.loop-e-preserved
+loop-e-preserved c = λ s asked.
+    let l = c.loop-e in
+    let going = l.invariant s asked in
+    goes_on_lem s _ _ _ asked l.e-index _ going (omega arith) _
+    (going_next s _ _ _ asked l.e-index _ going (omega arith) _ _ c.whole_entry.ensures c.entry_taken.ensures)
+    c.if-entry_taken.false
 
 pub returns : goal.returns
-returns c = λ head n accepted code dat.
-    let l = c.loop-i in
+returns c = λ s table accepted code dat.
+    let l = c.loop-e in
     let a = c.args in
-    let asked : Asked a.sheet.now a.head a.n a.code.now a.«data».now = record { head_is = head; count_is = n; accepted = accepted; code_free = code; data_free = dat } in
-    sym (ends_once a.sheet.now a.head a.n a.code.now a.«data».now asked l.i _ (l.invariant.6 asked) (omega arith))
+    let asked : Asked s a.table.now a.code.now a.«data».now = record { table_is = table; accepted = accepted; code_free = code; data_free = dat } in
+    sym (ends_once s _ _ _ asked l.e-index _ (l.invariant s asked) (omega arith))

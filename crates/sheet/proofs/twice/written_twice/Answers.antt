@@ -5,6 +5,6 @@ use Rattle.sheet.proofs.Fields.{heads}
 use Rattle.sheet.proofs.Marks.{too_few}
 use Rattle.sheet.proofs.twice.written_twice.Goals as goal
 
-pub returns-then-head-lt2 : goal.returns-then-head-lt2
-returns-then-head-lt2 c =
-    sym (too_few c.args.sheet.now (omega (arith, (heads _ _ c.requires.head_value.0).steps)))
+pub returns-then-sheet-lt2 : goal.returns-then-sheet-lt2
+returns-then-sheet-lt2 c =
+    sym (too_few c.args.sheet.bytes.now (omega (arith, (heads _ _ c.args.sheet.head_value).steps)))

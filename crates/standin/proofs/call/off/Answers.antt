@@ -12,5 +12,5 @@ use Rattle.standin.proofs.call.off.Goals as goal
 pub returns-clause-m_value : goal.returns-clause-m_value
 unfolding received
 returns-clause-m_value c m =
-    ap (λ (k : Core). view k (replicate 260 0) m) c.at_rest-core.ensures
+    ap (λ (k : Core). view k (replicate 260 0) m) c.at_rest.ensures
     ∙ ap (λ (o : Options). rest Silent Idle o m) c.fresh.ensures

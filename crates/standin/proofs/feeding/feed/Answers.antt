@@ -1,5 +1,5 @@
 -- `standin::feeding::feed` meets its contract: each byte brings the feeding one step further. Assumes nothing.
-use mathlib.Core.Path.{◌≡◌, refl, ap, ◌∙◌}
+use mathlib.Core.Path.{◌≡◌, refl, sym, ap, ◌∙◌}
 use mathlib.Core.List.{List}
 use Prim.Native.Nat.{ℕ, ◌+◌, ◌-◌, ◌<◌, ◌≤◌}
 use native.Mathlib.Omega.{arith}
@@ -7,17 +7,23 @@ use lib.ListN.{length, take, drop, get_or, length-drop}
 use borrow.Author.Rules.{rules}
 use borrow.Rule.Slice.PartMut.{put_mid}
 use Rattle.rules.specs.declared.Chip.{Chip}
-use Rattle.rules.specs.declared.Call.{Call}
-use Rattle.rules.specs.declared.Call.TheVariants.{Refused, Answer}
-use Rattle.rules.specs.declared.Note.{Note}
+use Rattle.rules.specs.Answers.{Call, Refused, Answer}
+use Rattle.rules.specs.Notes.{Note, Empty}
+use Rattle.rules.specs.Chip.{Memory}
 use Rattle.rules.specs.declared.Refusal.{Refusal}
-use Rattle.rules.specs.StandIn.{State, byte_call}
+use Rattle.rules.specs.StandIn.{State, Outcome, byte_call}
 use Rattle.frame_build.proofs.Buffers.{rest_of, put_rest}
 use Rattle.standin_engine.proofs.Stays.{letter}
-use Rattle.standin_engine.specs.View.{call_outcome}
+use Rattle.std.specs.Prelude.{Ok}
+use Rattle.chip_finder.specs.LentFlashes.{memory}
+use Rattle.standin_engine.specs.declared.Change.{Change as Taking}
+use Rattle.standin_engine.specs.Change.{change_outcome}
+use Rattle.standin_engine.specs.View.{view, call_outcome}
+use Rattle.standin_state.specs.declared.Core.{Core}
 use Rattle.standin.specs.Feeding.{feeding, feed_from}
 use Rattle.standin.proofs.FeedingAdvances.{fed_end, fed_on, fed_stop, answer_room, answer_short, room_answers, numbered}
 use Rattle.standin.proofs.feeding.feed.Goals as goal
+use Rattle.standin.proofs.feeding.feed.Goals.{in-Held, in-Whole}
 
 -- the call of byte i, which was lent what is left of the buffer
 module _ (chip : Chip) (s t : State) (out reply bytes : List ℕ) (w i : ℕ) (h : i < length bytes) (call : Call) (note : Note)
@@ -49,10 +55,15 @@ module _ (chip : Chip) (s t : State) (out reply bytes : List ℕ) (w i : ℕ) (h
       ap (λ (y : List ℕ). feeding t call i y) (put_rest w out reply)
       ∙ fed_stop chip s out w i bytes h t call note reply called r q
 
-pub returns-in-Refused : goal.returns-in-Refused
-returns-in-Refused c =
+-- what the byte came to, by what it changed
+change_is : (core : Core) (y z : Taking) → y ≡ z
+    → (frame : List ℕ) (m : Memory) (reply : List ℕ) (o : Outcome) → change_outcome core (Ok y) frame m reply ≡ o → change_outcome core (Ok z) frame m reply ≡ o
+change_is core y z e frame m reply o p = ap (λ (r : Taking). change_outcome core (Ok r) frame m reply) (sym e) ∙ p
+
+pub returns-in-Err : goal.returns-in-Err
+returns-in-Err c =
     let l = c.loop-i in
-    let t = c.in-Refused.ensures in
+    let t = c.in-Err.ensures in
     let taken = c.loop-i-test.true in
     let e = numbered _ _ (ended _ _ _ l.answers _ _ l.w l.i taken _ _ t.reply_after _ refl ∙ l.invariant.0) in record {
       answers_after = e.0;
@@ -64,54 +75,45 @@ returns-in-Refused c =
           (rw length-drop (omega (arith, roomy.1, l.invariant.9, l.invariant.3, taken)));
     }
 
-pub loop-i-preserved-in-Held : goal.loop-i-preserved-in-Held
-loop-i-preserved-in-Held c =
-    let l = c.loop-i in
-    let t = c.in-Held.ensures in
-    let e : l.w + 0 ≡ l.w = omega arith in
-    let k : length (put_mid l.w (length l.answers - l.w) l.answers c.byte_change-changed.new.reply) ≡ length l.answers = search rules in (
-      rw e at (onward _ _ _ l.answers _ _ l.w l.i c.loop-i-test.true _ _ t.reply_after 0 refl) ∙ l.invariant.0,
-      omega (arith, c.loop-i-test.true),
-      rw k l.invariant.2,
-      k ∙ l.invariant.3,
-      search rules,
-      search rules,
-      rw k l.invariant.6,
-      l.invariant.7,
-      λ z. absurd (omega (arith, z)),
-      omega (arith, l.invariant.9),
-    )
-
 pub overflow_add-w : goal.overflow_add-w
 overflow_add-w c =
     let l = c.loop-i in
-    let r = left _ _ _ l.answers _ _ l.w l.i c.loop-i-test.true _ _ c.in-Whole.ensures.reply_after _ refl l.invariant.2 in
+    let came = change_is l.core _ _ c.in-Whole.is _ _ _ _ c.in-Ok.ensures.reply_after in
+    let r = left _ _ _ l.answers _ _ l.w l.i c.loop-i-test.true _ _ came _ refl l.invariant.2 in
     omega (arith, r, l.invariant.6)
 
 pub loop-i-preserved : goal.loop-i-preserved
 loop-i-preserved c =
     let l = c.loop-i in
-    let t = c.in-Whole.ensures in
-    let r = left _ _ _ l.answers _ _ l.w l.i c.loop-i-test.true _ _ t.reply_after _ refl l.invariant.2 in
-    let k : length (put_mid l.w (length l.answers - l.w) l.answers c.byte_change-changed.new.reply) ≡ length l.answers = search rules in (
-      onward _ _ _ l.answers _ _ l.w l.i c.loop-i-test.true _ _ t.reply_after _ refl ∙ l.invariant.0,
+    let x = c.byte_change in
+    let t = c.match-change in
+    let m = memory x.new.code x.new.«data» in
+    let came : (k : ℕ) × (note : Note) × (call_outcome (view t.core x.new.held m) (Answer k) note x.new.reply ≡ byte_call c.args.chip (view l.core l.held (memory l.code l.«data»)) (take (length l.answers - l.w) (drop l.w l.answers)) (get_or c.args.bytes.now l.i 0)) × (t.w ≡ l.w + k) =
+    elim t.branch [
+      | in-Held w ↦ (0, Empty, rw w.core-is (change_is l.core _ _ w.in-Held.is _ _ _ _ c.in-Ok.ensures.reply_after), w.w-is ∙ omega arith)
+      | in-Whole w ↦ (w.in-Whole.h.answered, w.in-Whole.h.note, rw w.core-is (change_is l.core _ _ w.in-Whole.is _ _ _ _ c.in-Ok.ensures.reply_after), w.w-is)
+    ] in
+    let r = left _ _ _ l.answers _ _ l.w l.i c.loop-i-test.true _ _ came.2 came.0 (refl {a = Answer came.0}) l.invariant.2 in
+    let k : length (put_mid l.w (length l.answers - l.w) l.answers x.new.reply) ≡ length l.answers = search rules in (
+      rw came.3 (onward _ _ _ l.answers _ _ l.w l.i c.loop-i-test.true _ _ came.2 came.0 (refl {a = Answer came.0}) ∙ l.invariant.0),
       omega (arith, c.loop-i-test.true),
-      rw k r,
+      rw (k, came.3) r,
       k ∙ l.invariant.3,
       search rules,
       search rules,
       rw k l.invariant.6,
       l.invariant.7,
       λ z. absurd (omega (arith, z)),
-      omega (arith, l.invariant.9, short _ _ _ l.answers _ _ l.w l.i c.loop-i-test.true _ _ t.reply_after _ refl),
+      omega (arith, came.3, l.invariant.9, short _ _ _ l.answers _ _ l.w l.i c.loop-i-test.true _ _ came.2 came.0 (refl {a = Answer came.0})),
     )
 
 pub returns : goal.returns
 returns c =
     let l = c.loop-i in
-    let e = numbered _ _ (fed_end _ _ l.answers l.w l.i _ c.loop-i-test.false ∙ l.invariant.0) in record {
-      answers_after = e.0;
+    let e = numbered _ _ (fed_end _ _ l.answers l.w l.i _ c.loop-i-test.false ∙ l.invariant.0) in
+    let all : length c.args.bytes.now ≡ l.i = omega (arith, c.loop-i-test.false, l.invariant.1) in record {
+      answers_after = rw all e.0;
       call_value = e.1;
-      core_value = l.invariant.8;
+      core_value = λ z. l.invariant.8 (sym all ∙ z);
       call_value_2 = λ roomy. refl;
     }

@@ -1,6 +1,6 @@
 -- `standin::feeding::feed` meets its contract. Assumes nothing.
 use mathlib.Core.Path.{◌≡◌}
-use Prim.Native.Nat.{◌-◌, ◌*◌, ◌≤◌}
+use Prim.Native.Nat.{◌*◌, ◌≤◌}
 use lib.ListN.{length, drop}
 use Rattle.chip_finder.specs.LentFlashes.{memory}
 use Rattle.standin_engine.specs.View.{view}
@@ -19,6 +19,3 @@ invariant-loop-i l =
     × (length l.bytes ≤ 9223372036854775807)
     × (l.i ≡ 0 → (l.core ≡ l.initial.core) × (l.held ≡ l.initial.held))
     × (l.w ≤ 16 * l.i)
-
-abbrev pub decreases-loop-i : goal.decreases-loop-i
-decreases-loop-i l = length l.bytes - l.i

@@ -8,30 +8,24 @@ use lib.Dec.{leb}
 use borrow.Author.Tests.{le-leb, lt-leb}
 use Rattle.rules.specs.declared.Address.{Address}
 use Rattle.rules.specs.declared.Chip.{Chip}
-use Rattle.rules.specs.declared.Fault.{Fault}
+use Rattle.rules.specs.Faults.{Fault}
 use Rattle.rules.specs.declared.Flash.{Flash}
 use Rattle.rules.specs.declared.Flash.TheVariants.{Code, Data}
 use Rattle.rules.specs.declared.Block.{Block}
-use Rattle.rules.specs.declared.Range.{Range}
-use Rattle.rules.specs.declared.Range.TheVariants.{Blocks}
+use Rattle.rules.specs.Answers.{Range, Blocks, Bad}
 use Rattle.rules.specs.declared.Order.TheVariants.{BlankCheck}
-use Rattle.rules.specs.declared.Decoded.TheVariants.{Bad}
-use Rattle.rules.specs.declared.Judged.{Judged}
-use Rattle.rules.specs.declared.Judged.TheVariants.{Ordered}
 use Rattle.rules.specs.First.{first_fault}
 use Rattle.rules.specs.Chip.{Memory, flash_size, range}
-use Rattle.rules.specs.Command.{over_blocks, order_checks, judged_order, done}
+use Rattle.rules.specs.Command.{sad_of, ead_of, over_blocks, order_checks, judged_order, done}
 use Rattle.rules.specs.StandIn.{silences, on_judged}
 use Rattle.chip_finder.specs.LentFlashes.{memory, range_shown}
 use Rattle.chip_finder.proofs.ThereAndBack.{range_inside}
 use Rattle.standin_state.specs.declared.Core.{Core}
-use Rattle.standin_state.specs.View.{idle}
 use Rattle.standin_verdict.specs.Ranges.{blank_rows}
 use Rattle.standin_verdict.proofs.Ranges.{blank_rows_lem}
-use Rattle.standin_verdict.proofs.Verdicts.{stopped, went_on}
 use Rattle.standin_command.specs.Ordered.{on_order}
-use Rattle.standin_command.proofs.Answers.{same_out}
-use Rattle.standin_command.proofs.Refusals.{refused_kept, blank_keeps}
+use Rattle.standin_state.proofs.Handed.{same_out}
+use Rattle.standin_command.proofs.Refusals.{refused_kept, blank_keeps, order_done, order_refused}
 use Rattle.standin_command.proofs.Found.{shown_found}
 use Rattle.standin_command.proofs.orders.check_blank.Goals as goal
 
@@ -43,6 +37,10 @@ module _ (chip : Chip) (k : Core) (m : Memory) (f : List ℕ) (sad ead : Address
   asked r e h =
       ap (λ (x : Range). on_order chip k m f (over_blocks (λ g x y. BlankCheck g x y tar) x)) e
       ∙ ap (λ (t : Bool). on_order chip k m f (cond t (over_blocks (λ g x y. BlankCheck g x y tar) (range chip sad ead)) Bad)) (sym (le-leb _ _ h))
+
+  tar_read : (t : ℕ) → tar ≡ t → on_order chip k m f (cond (leb tar 1) (over_blocks (λ g x y. BlankCheck g x y tar) (range chip sad ead)) Bad)
+      ≡ on_order chip k m f (cond (leb t 1) (over_blocks (λ g x y. BlankCheck g x y t) (range chip sad ead)) Bad)
+  tar_read t e = ap (λ (u : ℕ). on_order chip k m f (cond (leb u 1) (over_blocks (λ g x y. BlankCheck g x y u) (range chip sad ead)) Bad)) e
 
   judged : (g : Flash) (x y : Block) (v : Fault) → range chip sad ead ≡ Blocks g x y
       → length m.code ≡ flash_size chip Code → length m.«data» ≡ flash_size chip Data
@@ -56,29 +54,40 @@ pub returns-then-tar-gt1 : goal.returns-then-tar-gt1
 unfolding on_judged judged_order
 returns-then-tar-gt1 c =
     let a = c.args in
+    let f = a.f.now in
+    let tar = c.byte_at-tar.result in
     let m = memory a.code.now a.«data».now in
-    λ f. same_out _ _ _ _ _ _ (ap (λ (t : Bool). on_order a.chip a.c m f (cond t (over_blocks (λ g x y. BlankCheck g x y a.tar) (range a.chip a.sad a.ead)) Bad)) (sym (lt-leb _ _ c.if-tar-gt1.true))) (c.refuse_information.ensures m)
+    let read = tar_read a.chip a.c m f (sad_of f) (ead_of f) tar _ c.byte_at-tar.ensures in
+    same_out _ _ _ _ _ _ (ap (λ (t : Bool). on_order a.chip a.c m f (cond t (over_blocks (λ g x y. BlankCheck g x y tar) (range a.chip (sad_of f) (ead_of f))) Bad)) (sym (lt-leb _ _ c.if-tar-gt1.true)) ∙ read) (c.refuse_information.ensures m)
 
-pub returns-then-status-ne6 : goal.returns-then-status-ne6
+pub returns-in-Err : goal.returns-in-Err
 unfolding on_judged judged_order
-returns-then-status-ne6 c =
+returns-in-Err c =
     let a = c.args in
+    let f = a.f.now in
+    let tar = c.byte_at-tar.result in
     let m = memory a.code.now a.«data».now in
-    let st = c.status_byte-status.ensures in
-    let v = λ (f : List ℕ). judged a.chip a.c m f a.sad a.ead a.tar _ _ _ _ (sym c.range.ensures ∙ c.in-Blocks.is) c.requires.in_code c.requires.in_data c.blank_fault-v.ensures in
-    λ f. same_out _ _ _ _ _ _ (refused_kept _ _ m _ _ _ (ap silences (v f) ∙ blank_keeps a.c.options m f _ _ _ a.tar) st c.note_of-note.ensures ∙ (ap (λ (j : Judged). on_judged j a.chip (idle a.c m)) (stopped _ _ (v f) (Ordered _) (λ e. c.if-status-ne6.true (st ∙ e))) ∙ asked a.chip a.c m f a.sad a.ead a.tar _ (sym c.in-Blocks.is ∙ c.range.ensures) c.if-tar-gt1.false)) (c.refuse_with.ensures m)
+    let read = tar_read a.chip a.c m f (sad_of f) (ead_of f) tar _ c.byte_at-tar.ensures in
+    let v = sym c.in-Err.is ∙ judged a.chip a.c m f (sad_of f) (ead_of f) tar _ _ _ _ (sym c.blocks_named.ensures ∙ c.in-Some.is) c.requires.in_code c.requires.in_data c.blank_fault.ensures in
+    same_out _ _ _ _ _ _ (refused_kept _ _ m _ _ _ (ap silences v ∙ blank_keeps a.c.options m f _ _ _ tar) c.status_byte.ensures c.note_of-note.ensures ∙ (order_refused a.chip a.c m f _ _ v ∙ asked a.chip a.c m f (sad_of f) (ead_of f) tar _ (sym c.in-Some.is ∙ c.blocks_named.ensures) c.if-tar-gt1.false ∙ read)) (c.refuse_with.ensures m)
 
-pub returns-else-status-ne6 : goal.returns-else-status-ne6
+pub returns-in_default : goal.returns-in_default
 unfolding on_judged judged_order done
-returns-else-status-ne6 c =
+returns-in_default c =
     let a = c.args in
+    let f = a.f.now in
+    let tar = c.byte_at-tar.result in
     let m = memory a.code.now a.«data».now in
-    let v = λ (f : List ℕ). judged a.chip a.c m f a.sad a.ead a.tar _ _ _ _ (sym c.range.ensures ∙ c.in-Blocks.is) c.requires.in_code c.requires.in_data c.blank_fault-v.ensures in
-    λ f. same_out _ _ _ _ _ _ (ap (λ (j : Judged). on_judged j a.chip (idle a.c m)) (went_on _ _ (v f) (Ordered _) (sym c.status_byte-status.ensures ∙ c.if-status-ne6.false)) ∙ asked a.chip a.c m f a.sad a.ead a.tar _ (sym c.in-Blocks.is ∙ c.range.ensures) c.if-tar-gt1.false) (c.acknowledge.ensures m)
+    let read = tar_read a.chip a.c m f (sad_of f) (ead_of f) tar _ c.byte_at-tar.ensures in
+    let v = sym c.in_default.is ∙ judged a.chip a.c m f (sad_of f) (ead_of f) tar _ _ _ _ (sym c.blocks_named.ensures ∙ c.in-Some.is) c.requires.in_code c.requires.in_data c.blank_fault.ensures in
+    same_out _ _ _ _ _ _ (order_done a.chip a.c m f _ v ∙ asked a.chip a.c m f (sad_of f) (ead_of f) tar _ (sym c.in-Some.is ∙ c.blocks_named.ensures) c.if-tar-gt1.false ∙ read) (c.acknowledge.ensures m)
 
-pub returns-in-Invalid : goal.returns-in-Invalid
+pub returns-in-None : goal.returns-in-None
 unfolding on_judged judged_order
-returns-in-Invalid c =
+returns-in-None c =
     let a = c.args in
+    let f = a.f.now in
+    let tar = c.byte_at-tar.result in
     let m = memory a.code.now a.«data».now in
-    λ f. same_out _ _ _ _ _ _ (asked a.chip a.c m f a.sad a.ead a.tar _ (sym c.in-Invalid.is ∙ c.range.ensures) c.if-tar-gt1.false) (c.refuse_information-in-Invalid.ensures m)
+    let read = tar_read a.chip a.c m f (sad_of f) (ead_of f) tar _ c.byte_at-tar.ensures in
+    same_out _ _ _ _ _ _ (asked a.chip a.c m f (sad_of f) (ead_of f) tar _ (sym c.in-None.is ∙ c.blocks_named.ensures) c.if-tar-gt1.false ∙ read) (c.refuse_information-in-None.ensures m)

@@ -1,31 +1,23 @@
 -- `standin_command::orders::identify` meets its contract: the ID decides. Assumes nothing.
-use mathlib.Core.Path.{◌≡◌, sym, ap, ◌∙◌}
-use Rattle.rules.specs.declared.Judged.{Judged}
-use Rattle.rules.specs.declared.Judged.TheVariants.{Ordered}
+use mathlib.Core.Path.{sym, ◌∙◌}
 use Rattle.rules.specs.declared.Order.TheVariants.{Identity}
-use Rattle.rules.specs.Frame.{status_byte}
-use Rattle.rules.specs.Command.{judged_order, done}
-use Rattle.rules.specs.StandIn.{on_judged}
+use Rattle.rules.specs.Command.{done}
 use Rattle.chip_finder.specs.LentFlashes.{memory}
-use Rattle.standin_state.specs.View.{idle}
-use Rattle.standin_verdict.proofs.Verdicts.{stopped, went_on}
-use Rattle.standin_command.proofs.Answers.{same_out}
-use Rattle.standin_command.proofs.Refusals.{ident_refused, answered_ident}
+use Rattle.standin_verdict.proofs.Verdicts.{no_row}
+use Rattle.standin_state.proofs.Handed.{same_out}
+use Rattle.standin_command.proofs.Refusals.{ident_refused, answered_ident, order_done, order_refused}
 use Rattle.standin_command.proofs.orders.identify.Goals as goal
 
-pub returns-then-status-ne6 : goal.returns-then-status-ne6
-unfolding on_judged judged_order
-returns-then-status-ne6 c =
+pub returns-in-Err : goal.returns-in-Err
+returns-in-Err c =
     let a = c.args in
-    let st = c.status_byte-status.ensures in
     λ chip d. let m = memory a.code.now d in
-    let v = c.ident_fault-v.ensures a.c.options d in
-    let no : status_byte c.ident_fault-v.result ≡ 0x06 → ⊥ = λ e. c.if-status-ne6.true (st ∙ e) in
-    let is = ident_refused a.c.options m a.f.now _ v no in
-    same_out _ _ _ _ _ _ (answered_ident a.c.phase _ _ m _ _ is st c.silenced-after.ensures.1 ∙ ap (λ (j : Judged). on_judged j chip (idle a.c m)) (stopped _ _ v (Ordered (Identity)) no)) (c.refuse_with.ensures m)
+    let e = sym c.in-Err.is ∙ c.ident_fault.ensures a.c.options d in
+    let is = ident_refused a.c.options m a.f.now _ e (no_row _) in
+    same_out _ _ _ _ _ _ (answered_ident a.c.phase _ _ m _ _ is c.status_byte-status.ensures c.silenced.ensures.1 ∙ order_refused chip a.c m a.f.now Identity _ e) (c.refuse_with.ensures m)
 
 pub returns : goal.returns
-unfolding on_judged judged_order done
+unfolding done
 returns c =
     let a = c.args in
-    λ chip d. same_out _ _ _ _ _ _ (ap (λ (j : Judged). on_judged j chip (idle a.c (memory a.code.now d))) (went_on _ _ (c.ident_fault-v.ensures a.c.options d) (Ordered (Identity)) (sym c.status_byte-status.ensures ∙ c.if-status-ne6.false))) (c.acknowledge.ensures (memory a.code.now d))
+    λ chip d. same_out _ _ _ _ _ _ (order_done chip a.c (memory a.code.now d) a.f.now Identity (sym c.in_default.is ∙ c.ident_fault.ensures a.c.options d)) (c.acknowledge.ensures (memory a.code.now d))

@@ -4,17 +4,19 @@ use mathlib.Core.Bool.{cond, ◌&&◌}
 use native.Mathlib.Omega.{arith}
 use lib.Dec.{leb}
 use Rattle.rules.specs.declared.Options.{Options}
-use Rattle.rules.specs.declared.Order.TheVariants.{Reset, Verify, BlankCheck, Program, BaudRate, Identity, SecuritySet, SecurityGet, Release, WindowSet, WindowGet, Checksum}
-use Rattle.rules.specs.declared.Decoded.TheVariants.{Is, Bad}
+use Rattle.rules.specs.declared.Order.TheVariants.{Reset, Verify, Program, BaudRate, Identity, SecuritySet, SecurityGet, Release, WindowSet, WindowGet, Checksum}
+use Rattle.rules.specs.declared.Task.TheVariants.{Verifying, Programming}
+use Rattle.rules.specs.Answers.{Is, Bad}
 use Rattle.rules.specs.First.{first}
 use Rattle.rules.specs.Chip.{erase_address, range}
-use Rattle.rules.specs.Command.{code_of, commands, read_as, over_blocks, at_block, order_checks, unless, judged_order, secured, done}
+use Rattle.rules.specs.Command.{code_of, sad_of, ead_of, paired, targeted, commands, read_as, over_blocks, at_block, order_checks, unless, judged_order, secured, done}
 use Rattle.rules.specs.StandIn.{on_judged}
 use Rattle.chip_finder.specs.LentFlashes.{memory}
 use Rattle.standin_state.specs.View.{idle}
 use Rattle.standin_verdict.proofs.Readings.{at_code, unlisted}
 use Rattle.standin_command.specs.Ordered.{on_order}
-use Rattle.standin_command.proofs.Answers.{same_out}
+use Rattle.standin_state.proofs.Handed.{same_out}
+use Rattle.standin_command.proofs.Refusals.{range_begun}
 use Rattle.standin_command.proofs.orders.obey.Goals as goal
 
 pub returns-in-0 : goal.returns-in-0
@@ -27,13 +29,15 @@ returns-in-0 c =
     same_out _ _ _ _ _ _ (ap (on_order a.chip a.c m f) d) (c.acknowledge.ensures m)
 
 pub returns-in-19 : goal.returns-in-19
-unfolding commands read_as
+unfolding on_judged judged_order unless order_checks first done commands read_as
 returns-in-19 c =
     let a = c.args in
     let f = a.f.now in
     let m = memory a.code.now a.«data».now in
-    let d = at_code a.chip f _ _ c.byte_at-command.ensures c.in-19.is (over_blocks Verify (range a.chip c.address_at.result c.address_at-in-19.result)) (rw (c.address_at.ensures, c.address_at-in-19.ensures)) in
-    same_out _ _ _ _ _ _ (ap (on_order a.chip a.c m f) d) (c.verify.ensures m f)
+    let pages = range a.chip (sad_of f) (ead_of f) in
+    let d = at_code a.chip f _ _ c.byte_at-command.ensures c.in-19.is (over_blocks Verify pages) refl in
+    let begins = range_begun a.chip a.c m f Verify Verifying (λ g x y. refl) pages _ _ c.awaited.ensures c.map.ensures.cases in
+    same_out _ _ _ _ _ _ (begins ∙ ap (on_order a.chip a.c m f) d) (c.begin.ensures m)
 
 pub returns-in-34 : goal.returns-in-34
 unfolding commands read_as
@@ -41,7 +45,7 @@ returns-in-34 c =
     let a = c.args in
     let f = a.f.now in
     let m = memory a.code.now a.«data».now in
-    let d = at_code a.chip f _ _ c.byte_at-command.ensures c.in-34.is (at_block (erase_address a.chip c.address_at-in-34.result)) (rw c.address_at-in-34.ensures) in
+    let d = at_code a.chip f _ _ c.byte_at-command.ensures c.in-34.is (at_block (erase_address a.chip c.address_at.result)) (rw c.address_at.ensures) in
     same_out _ _ _ _ _ _ (ap (on_order a.chip a.c m f) d) (c.erase.ensures f)
 
 pub returns-in-50 : goal.returns-in-50
@@ -50,18 +54,19 @@ returns-in-50 c =
     let a = c.args in
     let f = a.f.now in
     let m = memory a.code.now a.«data».now in
-    let tar = c.byte_at in
-    let d = at_code a.chip f _ _ c.byte_at-command.ensures c.in-50.is (cond (leb tar.result 1) (over_blocks (λ g x y. BlankCheck g x y tar.result) (range a.chip c.address_at-in-50.result c.address_at-in-50-2.result)) Bad) (rw (tar.ensures, c.address_at-in-50.ensures, c.address_at-in-50-2.ensures)) in
-    same_out _ _ _ _ _ _ (ap (on_order a.chip a.c m f) d) (c.check_blank.ensures f)
+    let d = at_code a.chip f _ _ c.byte_at-command.ensures c.in-50.is (targeted a.chip f) refl in
+    same_out _ _ _ _ _ _ (ap (on_order a.chip a.c m f) d) c.check_blank.ensures
 
 pub returns-in-64 : goal.returns-in-64
-unfolding commands read_as
+unfolding on_judged judged_order unless order_checks first done commands read_as
 returns-in-64 c =
     let a = c.args in
     let f = a.f.now in
     let m = memory a.code.now a.«data».now in
-    let d = at_code a.chip f _ _ c.byte_at-command.ensures c.in-64.is (over_blocks Program (range a.chip c.address_at-in-64.result c.address_at-in-64-2.result)) (rw (c.address_at-in-64.ensures, c.address_at-in-64-2.ensures)) in
-    same_out _ _ _ _ _ _ (ap (on_order a.chip a.c m f) d) (c.program.ensures m f)
+    let pages = range a.chip (sad_of f) (ead_of f) in
+    let d = at_code a.chip f _ _ c.byte_at-command.ensures c.in-64.is (over_blocks Program pages) refl in
+    let begins = range_begun a.chip a.c m f Program Programming (λ g x y. refl) pages _ _ c.awaited-in-64.ensures c.map-in-64.ensures.cases in
+    same_out _ _ _ _ _ _ (begins ∙ ap (on_order a.chip a.c m f) d) (c.begin-in-64.ensures m)
 
 pub returns-in-154 : goal.returns-in-154
 unfolding commands read_as
@@ -69,7 +74,7 @@ returns-in-154 c =
     let a = c.args in
     let f = a.f.now in
     let m = memory a.code.now a.«data».now in
-    let d = at_code a.chip f _ _ c.byte_at-command.ensures c.in-154.is (cond (leb c.byte_at-in-154.result 3 && leb 0x10 c.byte_at-in-154-2.result && leb c.byte_at-in-154-2.result 0x37) (Is BaudRate) Bad) (rw (c.byte_at-in-154.ensures, c.byte_at-in-154-2.ensures)) in
+    let d = at_code a.chip f _ _ c.byte_at-command.ensures c.in-154.is (cond (leb c.byte_at.result 3 && leb 0x10 c.byte_at-in-154.result && leb c.byte_at-in-154.result 0x37) (Is BaudRate) Bad) (rw (c.byte_at.ensures, c.byte_at-in-154.ensures)) in
     same_out _ _ _ _ _ _ (ap (on_order a.chip a.c m f) d) (c.set_speed.ensures a.chip m f)
 
 pub returns-in-156 : goal.returns-in-156
@@ -132,8 +137,8 @@ returns-in-176 c =
     let a = c.args in
     let f = a.f.now in
     let m = memory a.code.now a.«data».now in
-    let d = at_code a.chip f _ _ c.byte_at-command.ensures c.in-176.is (over_blocks Checksum (range a.chip c.address_at-in-176.result c.address_at-in-176-2.result)) (rw (c.address_at-in-176.ensures, c.address_at-in-176-2.ensures)) in
-    same_out _ _ _ _ _ _ (ap (on_order a.chip a.c m f) d) (c.tell_sum.ensures f)
+    let d = at_code a.chip f _ _ c.byte_at-command.ensures c.in-176.is (paired Checksum a.chip f) refl in
+    same_out _ _ _ _ _ _ (ap (on_order a.chip a.c m f) d) c.tell_sum.ensures
 
 pub returns-in_default : goal.returns-in_default
 unfolding on_judged judged_order commands

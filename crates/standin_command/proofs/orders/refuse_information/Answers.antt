@@ -4,7 +4,7 @@ use Rattle.rules.specs.declared.Phase.{Phase}
 use Rattle.rules.specs.declared.Task.TheVariants.{Idle}
 use Rattle.rules.specs.Frame.{one}
 use Rattle.rules.specs.State.{out, rest}
-use Rattle.standin_command.proofs.Answers.{same_out}
+use Rattle.standin_state.proofs.Handed.{same_out}
 use Rattle.standin_command.proofs.orders.refuse_information.Goals as goal
 
 pub returns : goal.returns

@@ -12,7 +12,7 @@ pub returns-then-ifpr-eq0 : goal.returns-then-ifpr-eq0
 unfolding secured
 returns-then-ifpr-eq0 c =
     let zero = sym c.ifpr.ensures ∙ c.if-ifpr-eq0.true in
-    λ m old. rw (eq-eqb (IFPR c.args.o) 0 zero) (comes _ _ _ _ _ _ m [] _ _ c.at_rest.ensures (sym (no_answer _)) (omega arith) c.requires)
+    λ m old. rw (eq-eqb (IFPR c.args.o) 0 zero) (comes _ _ _ _ _ _ m [] _ _ c.resting.ensures (sym (no_answer _)) (omega arith) c.told-reply)
 
 pub returns : goal.returns
 unfolding secured

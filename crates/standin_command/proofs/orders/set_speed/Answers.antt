@@ -2,12 +2,12 @@
 use mathlib.Core.Path.{sym, ap, ◌∙◌}
 use mathlib.Core.Bool.{Bool, cond}
 use Rattle.rules.specs.declared.Order.TheVariants.{BaudRate}
-use Rattle.rules.specs.declared.Decoded.TheVariants.{Is, Bad}
+use Rattle.rules.specs.Answers.{Is, Bad}
 use Rattle.rules.specs.First.{first}
 use Rattle.rules.specs.Command.{order_checks, unless, judged_order, done}
 use Rattle.rules.specs.StandIn.{on_judged}
 use Rattle.standin_command.specs.Ordered.{on_order}
-use Rattle.standin_command.proofs.Answers.{same_out}
+use Rattle.standin_state.proofs.Handed.{same_out}
 use Rattle.standin_command.proofs.orders.set_speed.Goals as goal
 
 pub returns-then-rated : goal.returns-then-rated

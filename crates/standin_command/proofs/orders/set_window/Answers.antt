@@ -1,29 +1,20 @@
 -- `standin_command::orders::set_window` meets its contract: FSPR decides. Assumes nothing.
 use mathlib.Core.Path.{sym, ap, ◌∙◌}
 use Rattle.rules.specs.declared.Options.{Options}
-use Rattle.rules.specs.declared.Note.TheVariants.{Empty}
-use Rattle.rules.specs.declared.Judged.{Judged}
-use Rattle.rules.specs.declared.Judged.TheVariants.{Ordered}
 use Rattle.rules.specs.declared.Order.TheVariants.{WindowSet}
-use Rattle.rules.specs.Command.{judged_order, ack_options, done}
-use Rattle.rules.specs.StandIn.{on_judged}
+use Rattle.rules.specs.Command.{ack_options, done}
 use Rattle.standin_state.specs.View.{idle}
-use Rattle.standin_verdict.proofs.Verdicts.{stopped, went_on}
-use Rattle.standin_command.proofs.Answers.{same_out}
-use Rattle.standin_command.proofs.Refusals.{refused_kept, quiet_as, window_quiet}
+use Rattle.standin_state.proofs.Handed.{same_out}
+use Rattle.standin_command.proofs.Refusals.{window_quiet, order_done, quiet_refused}
 use Rattle.standin_command.proofs.orders.set_window.Goals as goal
 
-pub returns-then-status-ne6 : goal.returns-then-status-ne6
-unfolding on_judged judged_order
-returns-then-status-ne6 c =
+pub returns-in-Err : goal.returns-in-Err
+returns-in-Err c =
     let a = c.args in
-    let st = c.status_byte-status.ensures in
-    λ chip m f. let v = c.window_fault-v.ensures m f a.sws a.swe in
-    let q = quiet_as _ _ v (window_quiet a.c.options m f a.sws a.swe) in
-    same_out _ _ _ _ _ _ (refused_kept _ _ m _ _ Empty q.0 st q.1 ∙ ap (λ (j : Judged). on_judged j chip (idle a.c m)) (stopped _ _ v (Ordered (WindowSet a.sws a.swe)) (λ e. c.if-status-ne6.true (st ∙ e)))) (c.refuse_with.ensures m)
+    λ chip m f. same_out _ _ _ _ _ _ (quiet_refused chip a.c m f (WindowSet a.sws a.swe) _ (sym c.in-Err.is ∙ c.window_fault.ensures m f _ _) (window_quiet a.c.options m f a.sws a.swe) _ c.status_byte.ensures) (c.refuse_with.ensures m)
 
 pub returns : goal.returns
-unfolding on_judged judged_order done
+unfolding done
 returns c =
     let a = c.args in
-    λ chip m f. same_out _ _ _ _ _ _ (ap (λ (o : Options). ack_options o (idle a.c (m))) c.window_set.ensures ∙ ap (λ (j : Judged). on_judged j chip (idle a.c (m))) (went_on _ _ (c.window_fault-v.ensures m f _ _) (Ordered (WindowSet a.sws a.swe)) (sym c.status_byte-status.ensures ∙ c.if-status-ne6.false))) (c.acknowledge.ensures (m))
+    λ chip m f. same_out _ _ _ _ _ _ (ap (λ (o : Options). ack_options o (idle a.c m)) c.window_set.ensures ∙ order_done chip a.c m f (WindowSet a.sws a.swe) (sym c.in_default.is ∙ c.window_fault.ensures m f _ _)) (c.acknowledge.ensures m)

@@ -12,14 +12,14 @@ returns-in-Idle c =
     let a = c.args in
     let s = idle a.c (memory a.code.now a.«data».now) in
     let f = frame_in a.frame.now in
-    handed_as _ _ _ _ s _ (on_command a.chip s f) _ (as_command a.chip s f _ c.task_now-t.ensures c.in-Idle.is) c.on_command.ensures
+    handed_as _ _ _ _ s _ (on_command a.chip s f) _ (as_command a.chip s f _ c.task_now.ensures c.in-Idle.is) c.on_command.ensures
 
 pub returns-in-Programming : goal.returns-in-Programming
 returns-in-Programming c =
     let a = c.args in
     let s = idle a.c (memory a.code.now a.«data».now) in
     let f = frame_in a.frame.now in
-    let e = c.task_now-t.ensures in
+    let e = c.task_now.ensures in
     let p = c.in-Programming.p in
     let q = c.in-Programming.is in
     handed_as _ _ _ _ s _ (on_page p s f) _ (as_page a.chip s f _ e p q) (page_handed _ _ _ _ s _ (on_page p s f) a.chip p (begun_ahead _ _ _ _ _ e q) c.on_page.ensures)
@@ -29,7 +29,7 @@ returns-in-Verifying c =
     let a = c.args in
     let s = idle a.c (memory a.code.now a.«data».now) in
     let f = frame_in a.frame.now in
-    let e = c.task_now-t.ensures in
+    let e = c.task_now.ensures in
     let p = c.in-Verifying.p in
     let q = c.in-Verifying.is in
     handed_as _ _ _ _ s _ (on_compare p s f) _ (as_compare a.chip s f _ e p q) (page_handed _ _ _ _ s _ (on_compare p s f) a.chip p (begun_ahead _ _ _ _ _ e q) c.on_compare.ensures)

@@ -33,7 +33,7 @@ returns-then-sign-eq33 c =
     let e = hears_power a.chip (view a.c a.held.now (memory a.code.now a.«data».now)) _ (sym c.byte_at-sign.ensures ∙ c.if-sign-eq33.true) in
     record {
       data_after = ap (λ (x : Core). view x a.held.now (memory a.code.now a.«data».now)) c.powered.ensures ∙ sym (ap (λ (h : Heard). h.state) e);
-      right_value = none_due _ _ _ c.row_count-none.ensures c.given_row-row.ensures ∙ ap (λ (h : Heard). same h.due (given a.line.now)) (sym e);
+      right_value = none_due _ _ _ c.row_count-right.ensures c.given_row-row.ensures ∙ ap (λ (h : Heard). same h.due (given a.line.now)) (sym e);
     }
 
 pub returns : goal.returns
@@ -43,5 +43,5 @@ returns c =
     let e = hears_else a.chip (view a.c a.held.now (memory a.code.now a.«data».now)) _ (λ q. c.if-sign-eq33.false (y.ensures ∙ q)) (λ q. c.if-sign-eq62.false (y.ensures ∙ q)) in
     record {
       data_after = sym (ap (λ (h : Heard). h.state) e);
-      right_value = none_due _ _ _ c.row_count-none.ensures c.given_row-row.ensures ∙ ap (λ (h : Heard). same h.due (given a.line.now)) (sym e);
+      right_value = none_due _ _ _ c.row_count-right.ensures c.given_row-row.ensures ∙ ap (λ (h : Heard). same h.due (given a.line.now)) (sym e);
     }

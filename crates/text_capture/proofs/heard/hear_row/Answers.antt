@@ -7,13 +7,13 @@ use lib.ListN.{length}
 use Rattle.rules.specs.Lines.{row_bytes}
 use Rattle.standin_state.proofs.Lending.{all_lent}
 use Rattle.text_session.specs.Session.{matches}
-use Rattle.text_session.proofs.Matches.{at_first_lem}
-use Rattle.text_capture.proofs.Hearing.{front_part, row_state, row_answers, row_end_state, row_end_answers}
+use Rattle.text_capture.proofs.Hearing.{row_state, row_answers, row_end_state, row_end_answers}
 use borrow.Author.Rules.{rules}
 use Rattle.text_capture.proofs.heard.hear_row.Goals as goal
 
 pub loop-k-init : goal.loop-k-init
-loop-k-init c = (omega arith, c.row_count-k-end.ensures, refl, refl, search rules, refl, at_first_lem _ _ _ c.begun-m.ensures.0 c.begun-m.ensures.1)
+unfolding matches
+loop-k-init c = (omega arith, c.row_count-k-end.ensures, refl, refl, search rules, refl, refl)
 
 pub loop-k-preserved : goal.loop-k-preserved
 loop-k-preserved c =
@@ -23,7 +23,7 @@ loop-k-preserved c =
     let a = c.args in
     let less = c.loop-k-test.true in
     let bs = row_bytes a.sent.now in
-    (omega (arith, less), l.invariant.1, search rules, search rules, search rules, l.invariant.5 ∙ row_state _ _ bs l.k (omega (arith, l.invariant.1, less)) _ r.ensures _ h.ensures.data_after, l.invariant.6 ∙ ap (λ (x : List ℕ). matches l.m x (row_bytes a.row.now)) (row_answers _ _ bs l.k (omega (arith, l.invariant.1, less)) _ r.ensures _ h.ensures.data_after _ (c.between.ensures ∙ front_part _ _ h.ensures.reply_after.1 ∙ h.ensures.reply_after.0)) ∙ sym (c.compare-m.ensures _))
+    (omega (arith, less), l.invariant.1, search rules, search rules, search rules, l.invariant.5 ∙ row_state _ _ bs l.k (omega (arith, l.invariant.1, less)) _ r.ensures _ h.ensures.data_after, l.invariant.6 ∙ ap (λ (x : List ℕ). matches l.stands x (row_bytes a.row.now)) (row_answers _ _ bs l.k (omega (arith, l.invariant.1, less)) _ r.ensures _ h.ensures.data_after _ (h.ensures.reply_after.0)) ∙ sym (c.compare-stands.ensures _))
 
 pub returns-clause-data_after : goal.returns-clause-data_after
 returns-clause-data_after c =
@@ -38,7 +38,7 @@ returns-clause-right_value c =
     let a = c.args in
     let bs = row_bytes a.sent.now in
     let e : length bs ≤ l.k = omega (arith, l.invariant.1) in
-    c.is_all.ensures ∙ sym (l.invariant.6 ∙ ap (λ (x : List ℕ). matches l.m x (row_bytes a.row.now)) (row_end_answers _ _ bs l.k e))
+    c.is_all.ensures ∙ sym (l.invariant.6 ∙ ap (λ (x : List ℕ). matches l.stands x (row_bytes a.row.now)) (row_end_answers _ _ bs l.k e))
 
 pub hear_byte-h-requires : goal.hear_byte-h-requires
 hear_byte-h-requires c =

@@ -19,7 +19,7 @@ invariant-loop-k l =
     × (length l.data ≡ length l.initial.data)
     × (length l.reply ≡ 16)
     × ((feed l.chip (view l.initial.core l.initial.held (memory l.initial.code l.initial.data)) (row_bytes l.sent)).state ≡ (feed l.chip (view l.core l.held (memory l.code l.data)) (drop l.k (row_bytes l.sent))).state)
-    × (same (all_bytes (feed l.chip (view l.initial.core l.initial.held (memory l.initial.code l.initial.data)) (row_bytes l.sent)).answers) (row_bytes l.row) ≡ matches l.m (all_bytes (feed l.chip (view l.core l.held (memory l.code l.data)) (drop l.k (row_bytes l.sent))).answers) (row_bytes l.row))
+    × (same (all_bytes (feed l.chip (view l.initial.core l.initial.held (memory l.initial.code l.initial.data)) (row_bytes l.sent)).answers) (row_bytes l.row) ≡ matches l.stands (all_bytes (feed l.chip (view l.core l.held (memory l.code l.data)) (drop l.k (row_bytes l.sent))).answers) (row_bytes l.row))
 
 abbrev pub decreases-loop-k : goal.decreases-loop-k
 decreases-loop-k l =

@@ -2,7 +2,7 @@
 use mathlib.Core.Path.{ap, ◌∙◌}
 use mathlib.Core.List.{List, [], ◌++◌, append-nil}
 use Rattle.rules.specs.declared.Flash.TheVariants.{Code, Data}
-use Rattle.chip_finder.specs.LentFlashes.{memory}
+use Rattle.text_hex.specs.Gathered.{memory_of}
 use Rattle.text_out.specs.Out.{out, add}
 use Rattle.rules.specs.Hex.{Named, named_from, blocks_named, bodies_of}
 use Rattle.text_hex.proofs.NamedBlocks.{bodies_none}
@@ -12,7 +12,7 @@ pub returns : goal.returns
 unfolding blocks_named
 returns c =
     let a = c.args in
-    let m = memory a.code.now a.«data».now in
+    let m = memory_of a.cells.now in
     let d = named_from m Data 0 8 in
     let p2 = c.put_flash in
     let p1 = c.put_flash-next in

@@ -3,7 +3,7 @@ use native.Mathlib.Omega.{arith}
 use mathlib.Core.Path.{sym, ap, ◌∙◌}
 use mathlib.Core.List.{List, ◌++◌}
 use Prim.Native.Nat.{◌+◌, ◌-◌}
-use Rattle.chip_finder.specs.LentFlashes.{memory}
+use Rattle.text_hex.specs.Gathered.{memory_of}
 use Rattle.text_out.specs.Out.{out, add}
 use Rattle.text_hex.proofs.NamedBlocks.{from_here_later, from_end}
 use Rattle.rules.specs.Hex.{Named, named_from, bodies_of}
@@ -12,7 +12,7 @@ use Rattle.text_hex.proofs.bodies.put_flash.Goals as goal
 pub loop-i-preserved : goal.loop-i-preserved
 loop-i-preserved c =
     let a = c.args in
-    let m = memory a.code.now a.«data».now in
+    let m = memory_of a.cells.now in
     let l = c.loop-i in
     let n = c.count_of-i-end.result in
     let k = c.put_named-next in (
@@ -29,7 +29,7 @@ loop-i-preserved c =
 pub returns : goal.returns
 returns c =
     let a = c.args in
-    let m = memory a.code.now a.«data».now in
+    let m = memory_of a.cells.now in
     let l = c.loop-i in
     let n = c.count_of-i-end.result in
     λ later.

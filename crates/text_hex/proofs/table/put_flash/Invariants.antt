@@ -4,7 +4,7 @@ use mathlib.Core.List.{List, ◌++◌}
 use Prim.Native.Nat.{◌+◌, ◌-◌, ◌*◌, ◌≤◌}
 use lib.ListN.{length}
 use Rattle.rules.specs.Chip.{small, blocks}
-use Rattle.chip_finder.specs.LentFlashes.{memory}
+use Rattle.text_hex.specs.Gathered.{memory_of}
 use Rattle.text_out.specs.Out.{out, add}
 use Rattle.rules.specs.Hex.{Named, named_from, entries_of}
 use Rattle.text_hex.proofs.table.put_flash.Given as goal
@@ -16,8 +16,8 @@ invariant-loop-i l =
     × (l.i-end ≤ 16)
     × (length l.buf ≡ length l.initial.buf)
     × (l.next.offset ≤ l.initial.next.offset + 4096 * l.i)
-    × ((later : List Named) → add (entries_of l.next.offset (named_from (memory l.code l.data) l.f l.i (l.i-end - l.i) ++ later)) (out l.next.at l.buf)
-    ≡ add (entries_of l.initial.next.offset (named_from (memory l.code l.data) l.f 0 (blocks small l.f) ++ later)) (out l.initial.next.at l.initial.buf))
+    × ((later : List Named) → add (entries_of l.next.offset (named_from (memory_of l.cells) l.f l.i (l.i-end - l.i) ++ later)) (out l.next.at l.buf)
+    ≡ add (entries_of l.initial.next.offset (named_from (memory_of l.cells) l.f 0 (blocks small l.f) ++ later)) (out l.initial.next.at l.initial.buf))
 
 abbrev pub decreases-loop-i : goal.decreases-loop-i
 decreases-loop-i l = l.i-end - l.i

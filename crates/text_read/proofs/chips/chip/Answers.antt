@@ -1,31 +1,32 @@
 -- `text_read::chips::chip` meets its contract: each name has its law. Assumes nothing.
-use mathlib.Core.Path.{sym, ap, ◌∙◌}
-use Prim.Native.Nat.{ℕ, ◌+◌}
-use lib.ListN.{drop}
-use Rattle.rules.specs.Lines.{between}
-use Rattle.text_read.specs.declared.number.Number.{Number}
-use Rattle.text_read.specs.declared.chips.Named.TheVariants.{Is}
-use Rattle.text_read.specs.Numerals.{decimal_of}
-use Rattle.text_read.specs.Chips.{counts_of}
-use Rattle.text_read.proofs.NamedChips.{names_small, names_large, names_none, names_counts}
+use mathlib.Core.Path.{◌≡◌, sym, ap, ◌∙◌}
+use mathlib.Core.List.{List}
+use Prim.Native.Nat.{ℕ}
+use lib.Dec.{eqb}
+use Rattle.std.specs.Cmp.Lexicographic.{pointwise}
+use Rattle.rules.specs.Chip.{same}
+use Rattle.rules.specs.Text.{ascii}
+use Rattle.text_read.specs.Answers.{Is}
+use Rattle.text_read.proofs.Parts.{same_as}
+use Rattle.text_read.proofs.NamedChips.{names_small, names_large, names_counts}
 use Rattle.text_read.proofs.chips.chip.Goals as goal
 
-pub returns-then-same_bytes : goal.returns-then-same_bytes
-returns-then-same_bytes c =
-    ap Is c.small.ensures ∙ sym (names_small _ (sym c.same_bytes.ensures ∙ c.if-same_bytes.true))
+pub returns-then-eq : goal.returns-then-eq
+returns-then-eq c =
+    let t = c.args.text.now in
+    let s : c.eq.result ≡ same t (ascii "small") = c.eq.ensures ∙ ap (λ (x : List ℕ). pointwise eqb t x) c.as_slice.ensures ∙ same_as t (ascii "small") in
+    ap Is c.small.ensures ∙ sym (names_small t (sym s ∙ c.if-eq.true))
 
-pub returns-then-same_bytes-2 : goal.returns-then-same_bytes-2
-returns-then-same_bytes-2 c =
-    ap Is c.large.ensures ∙ sym (names_large _ (sym c.same_bytes.ensures ∙ c.if-same_bytes.false) (sym c.same_bytes-2.ensures ∙ c.if-same_bytes-2.true))
-
-pub returns-then-byte_at-ne32 : goal.returns-then-byte_at-ne32
-returns-then-byte_at-ne32 c =
-    sym (names_none _ (sym c.same_bytes.ensures ∙ c.if-same_bytes.false) (sym c.same_bytes-2.ensures ∙ c.if-same_bytes-2.false) (λ z. c.if-byte_at-ne32.true (c.byte_at.ensures ∙ rw c.space_in-k.ensures.0 z)))
+pub returns-then-eq-2 : goal.returns-then-eq-2
+returns-then-eq-2 c =
+    let t = c.args.text.now in
+    let s : c.eq.result ≡ same t (ascii "small") = c.eq.ensures ∙ ap (λ (x : List ℕ). pointwise eqb t x) c.as_slice.ensures ∙ same_as t (ascii "small") in
+    let r : c.eq-2.result ≡ same t (ascii "large") = c.eq-2.ensures ∙ ap (λ (x : List ℕ). pointwise eqb t x) c.as_slice-2.ensures ∙ same_as t (ascii "large") in
+    ap Is c.large.ensures ∙ sym (names_large t (sym s ∙ c.if-eq.false) (sym r ∙ c.if-eq-2.true))
 
 pub returns : goal.returns
 returns c =
     let t = c.args.text.now in
-    c.counts.ensures
-    ∙ ap (λ (x : Number). counts_of x c.decimal-data.result) (c.decimal-code.ensures ∙ ap (decimal_of 255) (c.between.ensures ∙ ap (λ (n : ℕ). between 0 n t) c.space_in-k.ensures.0))
-    ∙ ap (counts_of _) (c.decimal-data.ensures ∙ ap (decimal_of 255) (c.rest.ensures ∙ ap (λ (n : ℕ). drop (n + 1) t) c.space_in-k.ensures.0))
-    ∙ sym (names_counts _ (sym c.same_bytes.ensures ∙ c.if-same_bytes.false) (sym c.same_bytes-2.ensures ∙ c.if-same_bytes-2.false) (rw (← c.space_in-k.ensures.0) (sym c.byte_at.ensures ∙ c.if-byte_at-ne32.false)))
+    let s : c.eq.result ≡ same t (ascii "small") = c.eq.ensures ∙ ap (λ (x : List ℕ). pointwise eqb t x) c.as_slice.ensures ∙ same_as t (ascii "small") in
+    let r : c.eq-2.result ≡ same t (ascii "large") = c.eq-2.ensures ∙ ap (λ (x : List ℕ). pointwise eqb t x) c.as_slice-2.ensures ∙ same_as t (ascii "large") in
+    c.counted.ensures ∙ sym (names_counts t (sym s ∙ c.if-eq.false) (sym r ∙ c.if-eq-2.false))

@@ -1,9 +1,11 @@
--- `text_read::rows::store` meets its contract: the bytes passed are in the buffer. Assumes nothing.
-use mathlib.Core.Path.{◌≡◌, sym}
+-- `text_read::rows::store` meets its contract: the row where there is room for it. Assumes nothing.
+use mathlib.Core.Path.{◌≡◌, sym, ap, ◌∙◌}
+use mathlib.Core.List.{List, ◌++◌}
+use Prim.Native.Nat.{ℕ, ◌+◌, ◌-◌}
 use native.Mathlib.Omega.{arith}
-use lib.ListN.{length-set}
+use lib.ListN.{take, drop}
 use Rattle.rules.specs.Lines.{row_bytes}
-use Rattle.text_read.proofs.Stores.{no_room, with_room, one_stored}
+use Rattle.text_read.proofs.Stores.{no_room, with_room}
 use Rattle.text_read.proofs.rows.store.Goals as goal
 
 pub returns-then-at-buffer : goal.returns-then-at-buffer
@@ -16,20 +18,11 @@ returns-then-count-buffer c =
     let a = c.args in
     sym (no_room a.at (row_bytes a.row.now) a.buffer.now (omega arith))
 
-pub loop-k-preserved : goal.loop-k-preserved
-loop-k-preserved c =
-    let l = c.loop-k in
-    let a = c.args in (
-      omega arith,
-      l.invariant.1,
-      simp length-set l.invariant.2,
-      l.invariant.3,
-      rw (l.invariant.4, c.row_byte.ensures) (one_stored a.at (row_bytes a.row.now) a.buffer.now l.k (omega arith) (omega arith)),
-    )
-
 pub returns : goal.returns
 returns c =
-    let l = c.loop-k in
     let a = c.args in
-    let e : l.k ≡ c.row_count-count.result = omega arith in
-    rw (l.invariant.4, e) (sym (with_room a.at (row_bytes a.row.now) a.buffer.now c.row_count-count.result l.invariant.3 l.invariant.1))
+    let n = c.row_count-count.result in
+    let e : a.at + n - a.at ≡ n = omega arith in
+    ap (λ (bs : List ℕ). record { end = a.at + n; bytes = take a.at a.buffer.now ++ (bs ++ drop (a.at + n - a.at) (drop a.at a.buffer.now)) }) c.put.ensures
+    ∙ ap (λ (k : ℕ). record { end = a.at + n; bytes = take a.at a.buffer.now ++ (row_bytes a.row.now ++ drop k (drop a.at a.buffer.now)) }) e
+    ∙ sym (with_room a.at (row_bytes a.row.now) a.buffer.now n c.row_count-count.ensures (omega arith))

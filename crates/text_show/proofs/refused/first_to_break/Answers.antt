@@ -1,5 +1,5 @@
 -- `text_show::refused::first_to_break` meets its contract: the first is among those that are left. Assumes nothing.
-use mathlib.Core.Path.{sym, ◌∙◌}
+use mathlib.Core.Path.{◌≡◌, sym, ◌∙◌}
 use Prim.Native.Nat.{◌<◌}
 use native.Mathlib.Omega.{arith}
 use Rattle.text_show.proofs.Breaking.{this_breaks, later_breaks, none_breaks}
@@ -23,4 +23,5 @@ pub returns : goal.returns
 returns c =
     let l = c.loop-i in
     let a = c.args in
-    sym (l.invariant.2 ∙ none_breaks a.refusal a.sheet.now l.i c.count-n.result (omega arith))
+    let last : c.count-n.result ≡ l.i = omega arith in
+    last ∙ sym (l.invariant.2 ∙ none_breaks a.refusal a.sheet.now l.i c.count-n.result (omega arith))

@@ -6,4 +6,4 @@ use Rattle.text_show.proofs.steps.put_range.Goals as goal
 pub returns : goal.returns
 unfolding range_line
 returns c =
-    simp add_append (rw (c.put_bytes.ensures, c.put_count-at.ensures, c.put_span-at.ensures, c.put_bytes-at.ensures, c.put_blocks-at.ensures, c.put_name-at.ensures, c.step_pages-pages.ensures.0))
+    simp add_append (rw (c.put_bytes.ensures, c.put_count-at.ensures, c.put_span-at.ensures, c.put_bytes-at.ensures, c.put_blocks-at.ensures, c.put-at.ensures, c.put_name-at.ensures, c.step_pages-pages.ensures.0))

@@ -2,10 +2,10 @@
 use Rattle.text_show.specs.Show.{judged_text}
 use Rattle.text_show.proofs.told.put_judged.Goals as goal
 
-pub returns-in-Accepted : goal.returns-in-Accepted
+pub returns-in-Ok : goal.returns-in-Ok
 unfolding judged_text
-returns-in-Accepted c = rw c.in-Accepted.is c.put_job.ensures
+returns-in-Ok c = rw c.in-Ok.is c.put_job.ensures
 
-pub returns-in-Refused : goal.returns-in-Refused
+pub returns-in-Err : goal.returns-in-Err
 unfolding judged_text
-returns-in-Refused c = rw c.in-Refused.is c.put_refused.ensures
+returns-in-Err c = rw c.in-Err.is c.put_refused.ensures

@@ -10,8 +10,8 @@ returns-then-i-report c =
     let a = c.args in
     rw (
       c.put_step.ensures,
-      c.sum_of-sum.ensures,
-      c.frames_of-sent.ensures,
+      c.entry_of-sum.ensures,
+      c.entry_of-sent.ensures,
       c.step_at-t.ensures,
       line_finished a.chip a.sheet.now a.report a.sums.now a.frames.now a.i c.if-i-report.true,
     )
@@ -27,7 +27,7 @@ returns-then-is_stopped c =
     let last : a.i ≡ a.report.steps = omega arith in
     rw (
       c.put_step-then-is_stopped.ensures,
-      c.frames_of-sent.ensures,
+      c.entry_of-sent.ensures,
       c.step_at-t.ensures,
       line_stopped a.chip a.sheet.now a.report a.sums.now a.frames.now a.i last (sym c.is_stopped.ensures ∙ c.if-is_stopped.true),
     )

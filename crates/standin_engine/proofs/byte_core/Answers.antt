@@ -1,0 +1,6 @@
+-- `standin_engine::byte_core` meets its contract. Assumes nothing.
+use mathlib.Core.Path.{◌∙◌}
+use Rattle.standin_engine.proofs.byte_core.Goals as goal
+
+pub returns-clause-reply_after : goal.returns-clause-reply_after
+returns-clause-reply_after c = c.by_change.ensures.outcome _ _ _ ∙ c.byte_change.ensures.reply_after

@@ -5,6 +5,7 @@ use text_lines::lines::{bad_line, room_for_bytes};
 use text_lines::told;
 use text_play::told::play_told;
 use text_read::in_hand::InHand;
+use text_read::line::line_end;
 use text_read::{in_hand, part};
 use text_script::chip_file::lent;
 use text_script::script_line::Line;
@@ -131,6 +132,7 @@ fn said_by(line: &[u8], b: Between, code: usize, data: usize) -> Option<Line> {
 }
 
 // The lines of a script; the number of the bad one that ended it, if one did. One without its LF is bad.
+// stays: no `split_inclusive` here, whose pieces have no contract in this program: each line is cut by `line_end`, which says where it ends.
 fn lines(
     rig: bool,
     chip: Chip,
@@ -143,14 +145,20 @@ fn lines(
         session: session::fresh(chip, code, data),
         sheet: in_hand::empty(),
     };
-    for (k, ended) in text.split_inclusive(|&byte| byte == b'\n').enumerate() {
-        let Some((b'\n', line)) = ended.split_last() else {
-            return Some(k + 1);
-        };
+    let mut at: usize = 0;
+    let mut number: usize = 0;
+    while at < text.len() {
+        number += 1;
+        let end = line_end(text, at);
+        if end >= text.len() {
+            return Some(number);
+        }
+        let line = part::between(text, at, end);
         let Some(said) = said_by(line, b, code.len(), data.len()) else {
-            return Some(k + 1);
+            return Some(number);
         };
         b = run(said, rig, line, b, sheet, code, data);
+        at = end + 1;
     }
     None
 }

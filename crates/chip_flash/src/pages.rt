@@ -18,6 +18,7 @@ fn body_of<'a>(frame: &'a [u8; 260]) -> &'a [u8]
 
 // The write status that a page gets: a guarded page is told as such, whatever it holds.
 // stays: a status byte and no Result, since the clause of `program_page` names the byte (`wrote`, `programmed`), which is sent as it is.
+#[tactic(auto, using(crate::proofs::Writes::status_guarded, crate::proofs::Writes::status_well, crate::proofs::Writes::status_used))]
 fn page_status(guarded: bool, page: &[u8]) -> u8
     ensures { result ≡ page_status guarded page.now }
 {

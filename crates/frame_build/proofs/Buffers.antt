@@ -1,5 +1,5 @@
 -- Frames put over the first bytes of a buffer. Assumes nothing.
-use Rattle.std.proofs.Common.{◌≡◌, ℕ, suc, ◌+◌, ◌-◌, ◌<◌, ◌≤◌, Bool, true, false, cond, ◌&&◌, leb, List, [], ◌∷◌, ◌++◌, length, take, drop, set, sym, refl, ap, ◌∙◌, append_assoc, append-nil, arith, length-append, length-drop, take-append-drop, drop_of_length-le, length-take-le, take_all, drop-cons, drop-drop, drop_at, le-leb, leb-false, leb-true}
+use Rattle.std.proofs.Common.{◌≡◌, ℕ, zero, suc, ◌+◌, ◌-◌, ◌<◌, ◌≤◌, Bool, true, false, cond, ◌&&◌, leb, List, [], ◌∷◌, ◌++◌, length, take, drop, set, sym, refl, ap, ◌∙◌, append_assoc, append-nil, le_of_suc-le-suc, not-suc-le-zero, add-one, arith, length-append, length-drop, take-append-drop, drop_of_length-le, length-take-le, take_all, drop-cons, drop-drop, drop_at, le-leb, leb-false, leb-true}
 use borrow.Rule.Slice.PartMut.{put_mid}
 use borrow.Author.Tests.{lt-leb}
 use Rattle.rules.specs.Chip.{byte_at, over}
@@ -31,6 +31,23 @@ module _ (new b : List ℕ) where
       go : (t : Bool) → (cond t (put (length new) (over new b)) (put 0 b)).count ≤ length new
       go true = omega arith
       go false = omega arith
+
+-- one byte more of them
+over_suc : (new old : List ℕ) (i : ℕ)
+    → i < length new
+    → i < length old
+    → set (take i new ++ drop i old) i (byte_at new i) ≡ take (suc i) new ++ drop (suc i) old
+over_suc [] old i h g = absurd (not-suc-le-zero h)
+over_suc (x ∷ new) [] i h g = absurd (not-suc-le-zero g)
+over_suc (x ∷ new) (y ∷ old) zero h g = refl
+over_suc (x ∷ new) (y ∷ old) (suc i) h g =
+    ap (λ (l : List ℕ). x ∷ l) (over_suc new old i (le_of_suc-le-suc h) (le_of_suc-le-suc g))
+
+pub over_more : (new old : List ℕ) (i : ℕ)
+    → i < length new
+    → i < length old
+    → set (take i new ++ drop i old) i (byte_at new i) ≡ take (i + 1) new ++ drop (i + 1) old
+over_more new old i h g = rw add-one (over_suc new old i h g)
 
 -- a frame's length, and a frame over the first bytes of a buffer: a body of 1 to 256 bytes and room, or not
 pub length_frame : (start end : ℕ) (body : List ℕ) → length (frame start end body) ≡ length body + 4

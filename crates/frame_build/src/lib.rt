@@ -36,11 +36,14 @@ pub fn adds_up(line: &[u8]) -> bool
     added(line) == 0
 }
 
-// SUM: what that line still lacks of 00h when LEN and body stand in it.
+// SUM: what that line still lacks of 00h when LEN and body stand in it. Each byte makes it lack so much less.
 pub fn sum_of(len: u8, body: &[u8]) -> u8
     ensures { ((len + total body.now + result) % 256 ≡ 0) × (result < 256) }
 {
-    len.wrapping_add(added(body)).wrapping_neg()
+    body.iter().fold(
+        len.wrapping_neg(),
+        |lack: u8, &byte| lack.wrapping_sub(byte),
+    )
 }
 
 // Bytes over the first of a buffer; nothing, and the answer 0, where there is no room.
@@ -52,7 +55,9 @@ pub fn put_bytes(buffer: &mut [u8], bytes: &[u8]) -> usize
     if buffer.len() < n {
         return 0;
     }
-    buffer[..n].copy_from_slice(bytes);
+    for (i, &byte) in bytes.iter().enumerate() {
+        buffer[i] = byte;
+    }
     n
 }
 

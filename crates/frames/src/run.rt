@@ -3,6 +3,7 @@ use crate::hand::Hand;
 use crate::script_line::Line;
 use crate::{hand, script_line};
 use text_lines::lines::{bad_line, room_for_bytes};
+use text_read::line::line_end;
 use text_read::{in_hand, part};
 
 // What a line does with the bytes of the sheet in hand; one of a sheet does nothing more.
@@ -57,6 +58,7 @@ fn run(
 }
 
 // The lines of a script; the number of the bad one that ended it, if one did. One without its LF is bad.
+// stays: no `split_inclusive` here, whose pieces have no contract in this program: each line is cut by `line_end`, which says where it ends.
 fn lines(
     text: &[u8],
     sheet: &mut [u8],
@@ -65,14 +67,20 @@ fn lines(
     sums: &mut [u16],
 ) -> Option<usize> {
     let mut h = hand::empty();
-    for (k, ended) in text.split_inclusive(|&b| b == b'\n').enumerate() {
-        let Some((b'\n', line)) = ended.split_last() else {
-            return Some(k + 1);
-        };
+    let mut at: usize = 0;
+    let mut number: usize = 0;
+    while at < text.len() {
+        number += 1;
+        let end = line_end(text, at);
+        if end >= text.len() {
+            return Some(number);
+        }
+        let line = part::between(text, at, end);
         let Some(said) = script_line::parse(line, h.begun) else {
-            return Some(k + 1);
+            return Some(number);
         };
         h = run(said, line, h, sheet, reply, frame, sums);
+        at = end + 1;
     }
     None
 }

@@ -7,6 +7,7 @@ ghost use Rattle.std.specs.Prelude.{◌≡◌, ◌+◌, ◌-◌, ◌%◌, length
 ghost use Rattle.rules.specs.Chip.{same, blank, checksum};
 
 // Two slices hold the same bytes.
+#[tactic(auto, using(crate::proofs::Lists::same_is, std::proofs::lemmas::Grind::common_steps))]
 pub fn same_bytes(a: &[u8], b: &[u8]) -> bool
     ensures { result ≡ same a.now b.now }
 {
@@ -17,7 +18,12 @@ pub fn same_bytes(a: &[u8], b: &[u8]) -> bool
 pub fn is_blank(s: &[u8]) -> bool
     ensures { result ≡ blank s.now }
 {
-    s.iter().all(|&byte| byte == 0xFF)
+    for &byte in s {
+        if byte != 0xFF {
+            return false;
+        }
+    }
+    true
 }
 
 // 0000h less each byte, borrows dropped.
@@ -41,6 +47,8 @@ pub fn copy(dst: &mut [u8], src: &[u8])
     ensures dst_unchanged { (length dst.old ≢ length src.now) → dst.new ≡ dst.old }
 {
     if dst.len() == src.len() {
-        dst.copy_from_slice(src);
+        for (i, &byte) in src.iter().enumerate() {
+            dst[i] = byte;
+        }
     }
 }

@@ -80,7 +80,7 @@ entry_there s i e h =
     cc (h, byte_there n s 0 n (omega arith), address_there n s 1 (n + 1) refl, address_there n s 4 (n + 4) refl, byte_there n s 7 (n + 7) refl, word_there n s 8 (n + 8) refl, word_there n s 10 (n + 10) refl)
 
 -- those of bytes that are the same as far as an entry reaches
-same_fields : (e f : List ℕ) → ((k : ℕ) → k < 12 → byte_at e k ≡ byte_at f k) → fields_of e ≡ fields_of f
+pub same_fields : (e f : List ℕ) → ((k : ℕ) → k < 12 → byte_at e k ≡ byte_at f k) → fields_of e ≡ fields_of f
 same_fields e f h =
     rw (h 0 (omega arith), h 1 (omega arith), h 2 (omega arith), h 3 (omega arith), h 4 (omega arith), h 5 (omega arith), h 6 (omega arith), h 7 (omega arith), h 8 (omega arith), h 9 (omega arith), h 10 (omega arith), h 11 (omega arith))
 

@@ -7,7 +7,7 @@ ghost use Rattle.sheet.specs.Head.{head_in, form_of};
 
 use crate::table::{Entry, Head, Headed, LOCK, against, body_end, flags_of, whole_entry};
 use crate::twice::written_twice;
-use chip_finder::{is_known, range};
+use chip_finder::{is_known, range, same_counts};
 use octets::numbers::{byte_at, high_byte};
 use rules::{Chip, Flags, Refusal};
 
@@ -146,7 +146,7 @@ pub fn sheet_verdict(sheet: &[u8]) -> Result<(), Refusal>
 fn other_chip(chip: Chip, sheet: &[u8]) -> bool
     ensures { result ≡ J14 chip sheet.now }
 {
-    chip != against(sheet)
+    !same_counts(chip, against(sheet))
 }
 
 // The verdict on a sheet for a chip, with room for so many sums: D0, its own rules, J14, then J10.

@@ -163,7 +163,9 @@ fn entry_behind(sheet: &[u8], head: usize, i: usize) -> Entry
     }
     // it is cut short: past the end its bytes read as 0
     let mut e = [0; ENTRY_SIZE];
-    e[..rest.len()].copy_from_slice(rest);
+    for (k, byte) in e.iter_mut().enumerate() {
+        *byte = byte_at(rest, k);
+    }
     whole_entry(&e)
 }
 

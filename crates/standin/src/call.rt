@@ -87,7 +87,6 @@ pub fn byte_call(
     ensures stands { Stands (call_number result.answer.call) d result.device }
 {
     // taken apart and put together: a record changed in place would be copied whole, its 260 bytes too, around the engine
-    // taken apart and put together: a record changed in place would be copied whole, its 260 bytes too, around the engine
     let mut held = d.held;
     let after = standin_engine::byte_core(d.chip, d.core, byte, &mut held, code, data, reply);
     Answered {

@@ -49,7 +49,11 @@ pub fn feed(
             }
         };
         match change {
-            Change::Held(n) => core.have = n,
+            // a way back of its own: the room for answers and the rest of the device are then known to stand, and no byte asks for them again
+            Change::Held(n) => {
+                core.have = n;
+                continue;
+            }
             Change::Whole(h) => {
                 core = h.core;
                 w = w + h.answered;

@@ -90,6 +90,8 @@ fn secure(phase: Phase, o: Options, reply: &mut [u8; REPLY_ROOM]) -> Response
 }
 
 // ---- the commands that can be refused ----
+// stays: (speed, docs/DESIGN-PASS.md) each function takes phase and options out of the device once. Taken at each call, the options are packed into one
+// number before the ways part, and so at each byte that comes to an engine put into its caller.
 
 // 05h: the information is not valid.
 fn refuse_information(phase: Phase, o: Options, reply: &mut [u8; REPLY_ROOM]) -> Response
@@ -118,9 +120,11 @@ fn awaited(chip: Chip, f: &[u8]) -> Option<Pages>
 fn begin(c: Core, task: Option<Task>, reply: &mut [u8; REPLY_ROOM]) -> Response
     ensures { (m : Memory) → Comes result m reply.new (begun task (idle c m)) reply.old }
 {
+    let phase = c.phase;
+    let o = c.options;
     match task {
-        Some(task) => acknowledge(c.phase, task, c.options, reply),
-        None => refuse_information(c.phase, c.options, reply),
+        Some(task) => acknowledge(phase, task, o, reply),
+        None => refuse_information(phase, o, reply),
     }
 }
 
@@ -136,12 +140,14 @@ fn tell_sum<'a>(
     requires { Fits chip code.now «data».now reply.old }
     ensures { Comes result (memory code.now «data».now) reply.new (on_order chip c (memory code.now «data».now) f.now (paired Checksum chip f.now)) reply.old }
 {
+    let phase = c.phase;
+    let o = c.options;
     match blocks_named(chip, f) {
         Some((g, a, b)) => {
             let sum = octets::checksum(chip_finder::range_part(chip, code, data, g, a, b));
-            tell_word(c.phase, c.options, sum, reply)
+            tell_word(phase, o, sum, reply)
         }
-        None => refuse_information(c.phase, c.options, reply),
+        None => refuse_information(phase, o, reply),
     }
 }
 
@@ -157,22 +163,22 @@ fn check_blank<'a>(
     requires { Fits chip code.now «data».now reply.old }
     ensures { Comes result (memory code.now «data».now) reply.new (on_order chip c (memory code.now «data».now) f.now (targeted chip f.now)) reply.old }
 {
+    let phase = c.phase;
+    let o = c.options;
     let tar = byte_at(f, 9);
     if 1 < tar {
-        return refuse_information(c.phase, c.options, reply);
+        return refuse_information(phase, o, reply);
     }
     match blocks_named(chip, f) {
         Some((g, a, b)) => {
-            if let Err(fault) = standin_verdict::blank_fault(
-                chip, c.options, code, data, g, a, b, tar,
-            ) {
+            if let Err(fault) = standin_verdict::blank_fault(chip, o, code, data, g, a, b, tar) {
                 let v = Err(fault);
                 let note = frame_judge::note_of(v);
-                return refuse_with(c.phase, c.options, frame_judge::status_byte(v), note, reply);
+                return refuse_with(phase, o, frame_judge::status_byte(v), note, reply);
             }
-            acknowledge(c.phase, Task::Idle, c.options, reply)
+            acknowledge(phase, Task::Idle, o, reply)
         }
-        None => refuse_information(c.phase, c.options, reply),
+        None => refuse_information(phase, o, reply),
     }
 }
 
@@ -189,17 +195,13 @@ fn erase_block(
     requires { (Fits chip code.old «data».old reply.old) × (b.0 < blocks chip g) }
     ensures { (f : List ℕ) → Comes result (memory code.new «data».new) reply.new (on_order chip c (memory code.old «data».old) f (Is (Erase g b))) reply.old }
 {
-    if let Err(fault) = standin_verdict::erase_fault(c.options, g, b) {
-        return refuse_with(
-            c.phase,
-            c.options,
-            frame_judge::status_byte(Err(fault)),
-            None,
-            reply,
-        );
+    let phase = c.phase;
+    let o = c.options;
+    if let Err(fault) = standin_verdict::erase_fault(o, g, b) {
+        return refuse_with(phase, o, frame_judge::status_byte(Err(fault)), None, reply);
     }
     chip_flash::erase::erase_block(chip, code, data, g, b);
-    acknowledge(c.phase, Task::Idle, c.options, reply)
+    acknowledge(phase, Task::Idle, o, reply)
 }
 
 // Block Erase of the block that begins at an address.
@@ -224,61 +226,52 @@ fn erase(
 fn set_speed(c: Core, brt: u8, vdd: u8, reply: &mut [u8; REPLY_ROOM]) -> Response
     ensures { (chip : Chip) (m : Memory) (f : List ℕ) → Comes result m reply.new (on_order chip c m f (cond (leb brt 3 && leb 0x10 vdd && leb vdd 0x37) (Is BaudRate) Bad)) reply.old }
 {
+    let phase = c.phase;
+    let o = c.options;
     if standin_verdict::rated(brt, vdd) {
-        return tell_speed(c.options, reply);
+        return tell_speed(o, reply);
     }
-    refuse_information(c.phase, c.options, reply)
+    refuse_information(phase, o, reply)
 }
 
 // ID: the ten bytes that stand in the frame.
 fn identify(c: Core, f: &[u8], code: &[u8], reply: &mut [u8; REPLY_ROOM]) -> Response
     ensures { (chip : Chip) (d : List ℕ) → Comes result (memory code.now d) reply.new (on_order chip c (memory code.now d) f.now (Is Identity)) reply.old }
 {
+    let phase = c.phase;
+    let o = c.options;
     if let Err(fault) = standin_verdict::ident_fault(f, code) {
         let status = frame_judge::status_byte(Err(fault));
-        return refuse_with(silenced(c.phase), c.options, status, None, reply);
+        return refuse_with(silenced(phase), o, status, None, reply);
     }
-    acknowledge(Phase::Command, Task::Idle, c.options, reply)
+    acknowledge(Phase::Command, Task::Idle, o, reply)
 }
 
 // Security Release.
 fn release(c: Core, code: &[u8], data: &[u8], reply: &mut [u8; REPLY_ROOM]) -> Response
     ensures { (chip : Chip) (f : List ℕ) → Comes result (memory code.now «data».now) reply.new (on_order chip c (memory code.now «data».now) f (Is Release)) reply.old }
 {
-    if let Err(fault) = standin_verdict::release_fault(c.options, code, data) {
-        return refuse_with(
-            c.phase,
-            c.options,
-            frame_judge::status_byte(Err(fault)),
-            None,
-            reply,
-        );
+    let phase = c.phase;
+    let o = c.options;
+    if let Err(fault) = standin_verdict::release_fault(o, code, data) {
+        return refuse_with(phase, o, frame_judge::status_byte(Err(fault)), None, reply);
     }
-    acknowledge(
-        c.phase,
-        Task::Idle,
-        chip_options::change::release(c.options),
-        reply,
-    )
+    acknowledge(phase, Task::Idle, chip_options::change::release(o), reply)
 }
 
 // Window Set.
 fn set_window(c: Core, sws: u16, swe: u16, reply: &mut [u8; REPLY_ROOM]) -> Response
     ensures { (chip : Chip) (m : Memory) (f : List ℕ) → Comes result m reply.new (on_order chip c m f (Is (WindowSet sws swe))) reply.old }
 {
-    if let Err(fault) = standin_verdict::window_fault(c.options) {
-        return refuse_with(
-            c.phase,
-            c.options,
-            frame_judge::status_byte(Err(fault)),
-            None,
-            reply,
-        );
+    let phase = c.phase;
+    let o = c.options;
+    if let Err(fault) = standin_verdict::window_fault(o) {
+        return refuse_with(phase, o, frame_judge::status_byte(Err(fault)), None, reply);
     }
     acknowledge(
-        c.phase,
+        phase,
         Task::Idle,
-        chip_options::change::window_set(c.options, sws, swe),
+        chip_options::change::window_set(o, sws, swe),
         reply,
     )
 }
@@ -298,25 +291,23 @@ pub(crate) fn obey(
     requires { Fits chip code.old «data».old reply.old }
     ensures { Comes result (memory code.new «data».new) reply.new (on_order chip c (memory code.old «data».old) f.now (decoded chip f.now)) reply.old }
 {
+    let phase = c.phase;
+    let o = c.options;
     let command = byte_at(f, 2);
     match command {
-        0x00 => acknowledge(c.phase, Task::Idle, c.options, reply),
+        0x00 => acknowledge(phase, Task::Idle, o, reply),
         0x13 => begin(c, awaited(chip, f).map(Task::Verifying), reply),
         0x22 => erase(chip, c, address_at(f, 3), code, data, reply),
         0x32 => check_blank(chip, c, f, &*code, &*data, reply),
         0x40 => begin(c, awaited(chip, f).map(Task::Programming), reply),
         0x9A => set_speed(c, byte_at(f, 3), byte_at(f, 4), reply),
         0x9C => identify(c, f, &*code, reply),
-        0xA0 => secure(
-            c.phase,
-            security_set(c.options, byte_at(f, 3), byte_at(f, 4)),
-            reply,
-        ),
-        0xA1 => tell_flags(c.phase, c.options, reply),
+        0xA0 => secure(phase, security_set(o, byte_at(f, 3), byte_at(f, 4)), reply),
+        0xA1 => tell_flags(phase, o, reply),
         0xA2 => release(c, &*code, &*data, reply),
         0xAC => set_window(c, word_at(f, 3), word_at(f, 5), reply),
-        0xAD => tell_window(chip, c.phase, c.options, reply),
+        0xAD => tell_window(chip, phase, o, reply),
         0xB0 => tell_sum(chip, c, f, &*code, &*data, reply),
-        _ => refuse_information(c.phase, c.options, reply),
+        _ => refuse_information(phase, o, reply),
     }
 }

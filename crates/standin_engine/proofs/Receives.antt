@@ -129,6 +129,12 @@ still_short xs n b k h e z d = go (eqb n 1) refl
 
 -- ---- the phases, and the refusals ----
 
+pub is_silent_lem : (p : Phase) → phase_number p ≡ 4 → p ≡ Silent
+is_silent_lem p e = grind arith
+
+pub is_mode : (p : Phase) → phase_number p ≡ 0 → p ≡ Mode
+is_mode p e = grind arith
+
 -- a phase that takes frames is neither silent nor the one that waits for a mode byte
 pub takes_frames : (p : Phase) → listening p ≡ true → (phase_number p ≡ 4 → ⊥) × (phase_number p ≡ 0 → ⊥)
 takes_frames p e = grind arith
@@ -138,13 +144,20 @@ module _ (chip : Chip) (s : State) (b : ℕ) where
   unfolding step
   by_phase p e = ap (λ (q : Phase). takes q chip s b) (sym e)
 
-  pub silent_step : s.phase ≡ Silent → out s [] ≡ step chip s b
+  pub silent_phase : s.phase ≡ Silent → out s [] ≡ step chip s b
   unfolding takes
-  silent_step e = by_phase Silent e
+  silent_phase e = by_phase Silent e
 
-  pub mode_step : s.phase ≡ Mode → out (rest (after_mode b) Idle s.options s.memory) [] ≡ step chip s b
+  pub mode_phase : s.phase ≡ Mode → out (rest (after_mode b) Idle s.options s.memory) [] ≡ step chip s b
   unfolding takes
-  mode_step e = by_phase Mode e
+  mode_phase e = by_phase Mode e
+
+  -- the same by the phase's number
+  pub silent_step : phase_number s.phase ≡ 4 → out s [] ≡ step chip s b
+  silent_step e = silent_phase (is_silent_lem s.phase e)
+
+  pub mode_step : phase_number s.phase ≡ 0 → out (rest (after_mode b) Idle s.options s.memory) [] ≡ step chip s b
+  mode_step e = mode_phase (is_mode s.phase e)
 
   pub listening_step : (s.phase ≡ Speed) ⊎ (s.phase ≡ Ident) ⊎ (s.phase ≡ Command) → receive chip s s.got b ≡ step chip s b
   unfolding takes

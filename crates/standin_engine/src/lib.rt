@@ -48,7 +48,12 @@ impl CoreAfter {
         ensures stands { Stands (call_number (call_of changed)) c result.core }
     {
         let (core, call, note) = match changed {
-            Ok(Change::Held(n)) => (Core { have: n, ..c }, Ok(0), None),
+            Ok(Change::Held(n)) => {
+                // changed in place: put together by `Core { have: n, ..c }` it goes field by field, and around it `answers` zeroes and copies whole records
+                let mut held = c;
+                held.have = n;
+                (held, Ok(0), None)
+            }
             Ok(Change::Whole(h)) => (h.core, Ok(h.answered), h.note),
             Err(refusal) => (c, Err(refusal), None),
         };
@@ -110,17 +115,18 @@ fn go_on(chip: Chip, c: Core, byte: u8, held: &mut [u8; 260]) -> Option<usize>
 }
 
 // A byte in a phase that takes frames: it goes on with one or completes one, or begins one. With two bytes no frame is whole.
+// stays: no match over the count, which asks for none and one first; most bytes come behind LEN.
 fn receive(chip: Chip, c: Core, byte: u8, held: &mut [u8; 260]) -> Option<usize>
     ensures { Takes chip c byte held.old held.new result }
 {
-    match c.have {
-        2.. => go_on(chip, c, byte, held),
-        1 => {
-            held[1] = byte;
-            Some(2)
-        }
-        0 => Some(begin(chip, c, byte, held)),
+    if 2 <= c.have {
+        return go_on(chip, c, byte, held);
     }
+    if c.have == 1 {
+        held[1] = byte;
+        return Some(2);
+    }
+    Some(begin(chip, c, byte, held))
 }
 
 // The phases that take frames: not the one that waits for a mode byte, nor silence.
@@ -130,7 +136,8 @@ pub fn listens(phase: Phase) -> bool
     matches!(phase, Phase::Speed | Phase::Ident | Phase::Command)
 }
 
-// The byte call, answered by what it changes: the refusals first, then the byte by its phase.
+// The byte call, answered by what it changes: the refusals first, then the byte by its phase. Each way answers by itself: where all are joined in one value,
+// an engine that stays a call fills the whole of it for a byte that only goes on.
 // stays: both flashes and the reply buffer are parameters one by one, here and in the calls above (public signatures; C lends each by itself: `rattle_called`).
 pub fn byte_change(
     chip: Chip,
@@ -146,17 +153,20 @@ pub fn byte_change(
 {
     lent::lent_verdict(chip, code.len(), data.len(), reply.len())?;
     match c.phase {
-        Phase::Silent => Ok(Change::Held(c.have)),
-        Phase::Mode => Ok(Change::Whole(Response {
-            core: resting::at_rest(tasks::after_mode(byte), Task::Idle, c.options),
-            answered: 0,
-            note: None,
-        })),
-        Phase::Speed | Phase::Ident | Phase::Command => match receive(chip, c, byte, held) {
-            Some(n) => Ok(Change::Held(n)),
-            None => Ok(Change::Whole(frames::on_frame(chip, c, &*held, code, data, reply))),
-        },
+        Phase::Silent => return Ok(Change::Held(c.have)),
+        Phase::Mode => {
+            return Ok(Change::Whole(Response {
+                core: resting::at_rest(tasks::after_mode(byte), Task::Idle, c.options),
+                answered: 0,
+                note: None,
+            }));
+        }
+        Phase::Speed | Phase::Ident | Phase::Command => {}
     }
+    if let Some(n) = receive(chip, c, byte, held) {
+        return Ok(Change::Held(n));
+    }
+    Ok(Change::Whole(frames::on_frame(chip, c, &*held, code, data, reply)))
 }
 
 // The byte call, answered by the whole small state.

@@ -54,7 +54,7 @@ fn frame_change(
     if !is_awaited(chip, c, input, &*held) {
         return Err(Refusal::E1);
     }
-    held[..input.len()].copy_from_slice(input);
+    octets::copy(&mut held[..input.len()], input);
     Ok(Change::Whole(on_frame(chip, c, &*held, code, data, reply)))
 }
 

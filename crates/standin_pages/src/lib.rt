@@ -27,8 +27,10 @@ fn paired(
 ) -> Response
     ensures { (m : Memory) → Comes result m reply.new (noted note (out (rest c.phase task c.options m) (pair line status))) reply.old }
 {
+    let phase = c.phase;
+    let o = c.options;
     let n = frame_build::put_pair(reply, line, status);
-    Response::resting(c.phase, task, c.options, n, note)
+    Response::resting(phase, task, o, n, note)
 }
 
 // The pages after the one in hand, with what is known of it.

@@ -73,8 +73,8 @@ fn after(said: Line, text: &[u8], s: Stated, code: &mut [u8], data: &mut [u8]) -
 }
 
 // The lines one after the other, from a fresh small chip on. The flashes lent have room for either chip, and the chip's own are their first bytes.
-// stays: tried with `for (k, ended) in text.split_inclusive(|&b| b == b'\n').enumerate()`, as in the program `frames`, whose lines have no contract: the
-// proof did not close at the loop's step and at its four returns, which need that each piece is the next line of `lines_of`.
+// stays: tried with `for (k, ended) in text.split_inclusive(|&b| b == b'\n').enumerate()`: the proof
+// did not close at the loop's step and at its four returns, which need that each piece is the next line of `lines_of`.
 #[tactic(auto, using(crate::proofs::FileLines::from_fresh, crate::proofs::FileLines::said_as, crate::proofs::FileLines::file_end, crate::proofs::FileLines::file_unended, crate::proofs::FileLines::file_bad, crate::proofs::FileLines::file_more))]
 pub fn read(text: &[u8], code: &mut [u8], data: &mut [u8]) -> Result<Stated, BadLine>
     ensures { file_read result (memory code.new «data».new) ≡ file_states text.now (memory code.old «data».old) }

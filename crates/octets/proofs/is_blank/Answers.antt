@@ -1,12 +1,19 @@
--- `octets::is_blank` meets its contract: the test of each byte. Assumes nothing.
-use Rattle.std.proofs.Common.{eqb, ◌∙◌, rules, tests}
-use Rattle.std.proofs.lemmas.Iterator.{YieldsList-from_slice}
-use Rattle.std.proofs.lemmas.Iterator.Search.{all_from_yields_List}
-use Rattle.rules.specs.Chip.{blank_byte}
-use Rattle.octets.proofs.Lists.{blank_is}
+-- `octets::is_blank` meets its contract: what is left to look at decides. Assumes nothing.
+use Rattle.std.proofs.Common.{sym, ◌∙◌, arith}
+use Rattle.octets.proofs.Lists.{blank_not, blank_more, blank_end}
 use Rattle.octets.proofs.is_blank.Goals as goal
+
+pub returns-then-byte : goal.returns-then-byte
+returns-then-byte c =
+    let l = c.loop-byte in
+    sym (l.invariant ∙ blank_not _ l.byte-index (omega arith) c.if-byte.true)
+
+pub loop-byte-preserved : goal.loop-byte-preserved
+loop-byte-preserved c =
+    let l = c.loop-byte in
+    l.invariant ∙ blank_more _ l.byte-index (omega arith) c.if-byte.false
 
 pub returns : goal.returns
 returns c =
-    let s = c.args.s.now in
-    all_from_yields_List (λ x. eqb x blank_byte) _ _ c.all.result c.all.ensures.ran (YieldsList-from_slice s c.iter.ensures.rest) (λ x b q k. search (rules, tests)) ∙ blank_is s
+    let l = c.loop-byte in
+    sym (l.invariant ∙ blank_end _ l.byte-index (omega arith))

@@ -16,7 +16,7 @@ use Rattle.standin_engine.specs.View.{view, call_outcome}
 use Rattle.standin_engine.specs.Answers.{Change, Refused}
 use Rattle.standin_engine.specs.Change.{change_outcome}
 use Rattle.standin_engine.proofs.Stays.{handed_on}
-use Rattle.standin_engine.proofs.Receives.{refused_byte, taken, unanswered, silent_step, mode_step, listening_step, none_got}
+use Rattle.standin_engine.proofs.Receives.{refused_byte, taken, unanswered, silent_phase, mode_phase, listening_step, none_got}
 use Rattle.standin_engine.proofs.byte_change.Goals as goal
 
 pub returns-in_err-lent_verdict-clause-reply_after : goal.returns-in_err-lent_verdict-clause-reply_after
@@ -32,7 +32,7 @@ returns-in-Silent-clause-reply_after c =
     let a = c.args in
     let v = view a.c a.held.now (memory a.code.now a.«data».now) in
     unanswered v a.reply.now
-    ∙ ap (λ (o : Out). answered o a.reply.now) (silent_step a.chip v a.byte c.in-Silent.is)
+    ∙ ap (λ (o : Out). answered o a.reply.now) (silent_phase a.chip v a.byte c.in-Silent.is)
     ∙ taken a.chip v a.byte a.reply.now (sym c.lent_verdict.ensures ∙ c.in_ok-lent_verdict.was)
 
 pub returns-in-Mode-clause-reply_after : goal.returns-in-Mode-clause-reply_after
@@ -43,7 +43,7 @@ returns-in-Mode-clause-reply_after c =
     let v = view a.c a.held.now m in
     ap (λ (k : Core). call_outcome (view k a.held.now m) (Answer 0) Empty a.reply.now) (c.at_rest.ensures ∙ ap (λ (p : Phase). resting p Idle a.c.options) c.after_mode.ensures)
     ∙ unanswered (rest (after_mode a.byte) Idle a.c.options m) a.reply.now
-    ∙ ap (λ (o : Out). answered o a.reply.now) (mode_step a.chip v a.byte c.in-Mode.is)
+    ∙ ap (λ (o : Out). answered o a.reply.now) (mode_phase a.chip v a.byte c.in-Mode.is)
     ∙ taken a.chip v a.byte a.reply.now (sym c.lent_verdict.ensures ∙ c.in_ok-lent_verdict.was)
 
 pub returns-in-Some : goal.returns-in-Some
@@ -57,8 +57,8 @@ returns-in-Some c =
       stands = λ refused. absurd (refused refl);
     }
 
-pub returns-in-None : goal.returns-in-None
-returns-in-None c =
+pub returns : goal.returns
+returns c =
     let a = c.args in
     let m = memory a.code.now a.«data».now in
     let v = view a.c a.held.now m in
@@ -71,7 +71,7 @@ returns-in-None c =
           (λ (g : List ℕ). call_outcome (record { phase = f.result.core.phase; task = f.result.core.task; options = f.result.core.options; got = g; memory = memory f.new.code f.new.«data» }) (Answer f.result.answered) f.result.note f.new.reply)
           (none_got f.result.core.have c.receive.new.held t.1)
           ∙ t.0
-          ∙ ap (λ (o : Out). answered o a.reply.now) (c.in-None.ensures m ∙ listening_step a.chip v a.byte c.in-Speed.is)
+          ∙ ap (λ (o : Out). answered o a.reply.now) (c.in_default.ensures m ∙ listening_step a.chip v a.byte c.in-Speed.is)
           ∙ taken a.chip v a.byte a.reply.now accepted;
       stands = λ refused. absurd (refused refl);
     }

@@ -11,8 +11,12 @@ use Rattle.standin_engine.specs.View.{view, held_count}
 use Rattle.standin_engine.proofs.Receives.{held_small, held_is, held_as, none_got, continued, still_short}
 use Rattle.standin_engine.proofs.receive.Goals as goal
 
-pub returns-in-1 : goal.returns-in-1
-returns-in-1 c =
+-- fewer than two, and not one
+none_had : (n : ℕ) → n < 2 → (n ≡ 1 → ⊥) → n ≡ 0
+none_had n few one = omega (arith, few, one)
+
+pub returns-then-c-eq1 : goal.returns-then-c-eq1
+returns-then-c-eq1 c =
     let a = c.args in
     let xs = a.held.now in
     let len = len_of (set xs 1 a.byte) in
@@ -24,14 +28,14 @@ returns-in-1 c =
     held_as _ (take 2 (set xs 1 a.byte)) _ reply
     (held_is 2 2 (set xs 1 a.byte) (still_short xs 1 a.byte 1 fits here some short))
     (continued a.chip (view a.c xs m) a.byte xs 1 some fits short)
-    ∙ ap (λ (g : List ℕ). answered (receive a.chip (view a.c xs m) g a.byte) reply) (sym (ap (λ (k : ℕ). received k xs) c.in-1.is ∙ held_is 1 1 xs here))
+    ∙ ap (λ (g : List ℕ). answered (receive a.chip (view a.c xs m) g a.byte) reply) (sym (ap (λ (k : ℕ). received k xs) c.if-c-eq1.true ∙ held_is 1 1 xs here))
 
 pub begin-requires : goal.begin-requires
-begin-requires c = none_got _ _ c.in-0.is
+begin-requires c = none_got _ _ (none_had c.args.c.have c.if-c-ge2.false c.if-c-eq1.false)
 
-pub returns-in-0 : goal.returns-in-0
-returns-in-0 c =
+pub returns : goal.returns
+returns c =
     let a = c.args in
     λ m reply.
     c.begin.ensures m reply
-    ∙ ap (λ (g : List ℕ). answered (receive a.chip (view a.c a.held.now m) g a.byte) reply) (sym (none_got a.c.have a.held.now c.in-0.is))
+    ∙ ap (λ (g : List ℕ). answered (receive a.chip (view a.c a.held.now m) g a.byte) reply) (sym (none_got a.c.have a.held.now (none_had a.c.have c.if-c-ge2.false c.if-c-eq1.false)))

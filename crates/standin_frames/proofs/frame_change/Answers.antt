@@ -1,8 +1,10 @@
 -- `standin_frames::frame_change` meets its contract: the refusals, then what a whole frame does. Assumes nothing.
-use mathlib.Core.Path.{◌≡◌, sym, ap, ◌∙◌}
+use mathlib.Core.Path.{◌≡◌, refl, sym, ap, ◌∙◌}
 use mathlib.Core.List.{List, ◌++◌}
-use Prim.Native.Nat.{ℕ}
+use Prim.Native.Nat.{ℕ, ◌≤◌}
+use native.Mathlib.Omega.{arith}
 use lib.ListN.{length}
+use lib.Seq.{length-take-le}
 use Rattle.rules.specs.Answers.{Answer}
 use Rattle.rules.specs.StandIn.{on_frame, answered}
 use Rattle.chip_finder.specs.LentFlashes.{memory}
@@ -38,10 +40,12 @@ returns-clause-reply_after c =
     let k = f.result.core in
     let lent = memory a.code.now a.«data».now in
     let later = post_of 0 (length a.input.now) a.held.now in
-    let held = c.copy_from_slice.new.self ++ later in
+    let held = c.copy.new.dst ++ later in
     let accepted = sym c.lent_verdict.ensures ∙ c.in_ok-lent_verdict.was in
     let asked = sym c.if-not-is_awaited.ensures.value in
-    let there = ap (λ (x : List ℕ). frame_in (x ++ later)) c.copy_from_slice.ensures.after ∙ frame_held a.input.now later (one_frame _ _ _ _ _ asked) in
+    let most = c.if-not-is_awaited.ensures.input_len_bound refl in
+    let room : length a.input.now ≤ length a.held.now = omega arith in
+    let there = ap (λ (x : List ℕ). frame_in (x ++ later)) (c.copy.ensures.dst_after (length-take-le (length a.input.now) a.held.now room)) ∙ frame_held a.input.now later (one_frame _ _ _ _ _ asked) in
     let t = fits_taken a.chip a.code.now a.«data».now a.reply.now (lent_fits _ _ _ _ accepted) _ _ _ _ (idle a.c lent) _ f.ensures in
     ap
     (λ (g : List ℕ). call_outcome (record { phase = k.phase; task = k.task; options = k.options; got = g; memory = memory f.new.code f.new.«data» }) (Answer f.result.answered) f.result.note f.new.reply)

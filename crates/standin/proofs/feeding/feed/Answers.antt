@@ -23,7 +23,6 @@ use Rattle.standin_state.specs.declared.Core.{Core}
 use Rattle.standin.specs.Feeding.{feeding, feed_from}
 use Rattle.standin.proofs.FeedingAdvances.{fed_end, fed_on, fed_stop, answer_room, answer_short, room_answers, numbered}
 use Rattle.standin.proofs.feeding.feed.Goals as goal
-use Rattle.standin.proofs.feeding.feed.Goals.{in-Held, in-Whole}
 
 -- the call of byte i, which was lent what is left of the buffer
 module _ (chip : Chip) (s t : State) (out reply bytes : List ℕ) (w i : ℕ) (h : i < length bytes) (call : Call) (note : Note)
@@ -82,29 +81,42 @@ overflow_add-w c =
     let r = left _ _ _ l.answers _ _ l.w l.i c.loop-i-test.true _ _ came _ refl l.invariant.2 in
     omega (arith, r, l.invariant.6)
 
-pub loop-i-preserved : goal.loop-i-preserved
-loop-i-preserved c =
+pub loop-i-preserved-in-Held : goal.loop-i-preserved-in-Held
+loop-i-preserved-in-Held c =
     let l = c.loop-i in
     let x = c.byte_change in
-    let t = c.match-change in
-    let m = memory x.new.code x.new.«data» in
-    let came : (k : ℕ) × (note : Note) × (call_outcome (view t.core x.new.held m) (Answer k) note x.new.reply ≡ byte_call c.args.chip (view l.core l.held (memory l.code l.«data»)) (take (length l.answers - l.w) (drop l.w l.answers)) (get_or c.args.bytes.now l.i 0)) × (t.w ≡ l.w + k) =
-    elim t.branch [
-      | in-Held w ↦ (0, Empty, rw w.core-is (change_is l.core _ _ w.in-Held.is _ _ _ _ c.in-Ok.ensures.reply_after), w.w-is ∙ omega arith)
-      | in-Whole w ↦ (w.in-Whole.h.answered, w.in-Whole.h.note, rw w.core-is (change_is l.core _ _ w.in-Whole.is _ _ _ _ c.in-Ok.ensures.reply_after), w.w-is)
-    ] in
-    let r = left _ _ _ l.answers _ _ l.w l.i c.loop-i-test.true _ _ came.2 came.0 (refl {a = Answer came.0}) l.invariant.2 in
+    let came = change_is l.core _ _ c.in-Held.is _ _ _ _ c.in-Ok.ensures.reply_after in
+    let e : l.w + 0 ≡ l.w = omega arith in
     let k : length (put_mid l.w (length l.answers - l.w) l.answers x.new.reply) ≡ length l.answers = search rules in (
-      rw came.3 (onward _ _ _ l.answers _ _ l.w l.i c.loop-i-test.true _ _ came.2 came.0 (refl {a = Answer came.0}) ∙ l.invariant.0),
+      rw e at (onward _ _ _ l.answers _ _ l.w l.i c.loop-i-test.true _ _ came 0 refl) ∙ l.invariant.0,
       omega (arith, c.loop-i-test.true),
-      rw (k, came.3) r,
+      rw k l.invariant.2,
       k ∙ l.invariant.3,
       search rules,
       search rules,
       rw k l.invariant.6,
       l.invariant.7,
       λ z. absurd (omega (arith, z)),
-      omega (arith, came.3, l.invariant.9, short _ _ _ l.answers _ _ l.w l.i c.loop-i-test.true _ _ came.2 came.0 (refl {a = Answer came.0})),
+      omega (arith, l.invariant.9),
+    )
+
+pub loop-i-preserved : goal.loop-i-preserved
+loop-i-preserved c =
+    let l = c.loop-i in
+    let x = c.byte_change in
+    let came = change_is l.core _ _ c.in-Whole.is _ _ _ _ c.in-Ok.ensures.reply_after in
+    let r = left _ _ _ l.answers _ _ l.w l.i c.loop-i-test.true _ _ came _ refl l.invariant.2 in
+    let k : length (put_mid l.w (length l.answers - l.w) l.answers x.new.reply) ≡ length l.answers = search rules in (
+      onward _ _ _ l.answers _ _ l.w l.i c.loop-i-test.true _ _ came _ refl ∙ l.invariant.0,
+      omega (arith, c.loop-i-test.true),
+      rw k r,
+      k ∙ l.invariant.3,
+      search rules,
+      search rules,
+      rw k l.invariant.6,
+      l.invariant.7,
+      λ z. absurd (omega (arith, z)),
+      omega (arith, l.invariant.9, short _ _ _ l.answers _ _ l.w l.i c.loop-i-test.true _ _ came _ refl),
     )
 
 pub returns : goal.returns

@@ -23,10 +23,16 @@ pub const ACK: [u8; 5] = [0x02, 0x01, 0x06, 0xF9, 0x03];
 pub const WELL: [u8; 6] = [0x02, 0x02, 0x06, 0x06, 0xF2, 0x03];
 
 // The bytes added up, carries dropped.
+// stays: (speed, docs/DESIGN-PASS.md) a loop: folded, they are gone through by a pointer behind the start byte, and an engine put into its caller reads that
+// pointer from the stack to find LEN, at each byte that comes.
 fn added(line: &[u8]) -> u8
     ensures { result ≡ total line.now % 256 }
 {
-    line.iter().fold(0, |sum: u8, &byte| sum.wrapping_add(byte))
+    let mut sum: u8 = 0;
+    for &byte in line {
+        sum = sum.wrapping_add(byte);
+    }
+    sum
 }
 
 // The line of additions of 001, section 5: LEN, all that follows it and SUM, which must come to 00h.

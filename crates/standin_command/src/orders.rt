@@ -109,10 +109,12 @@ fn blocks_named(chip: Chip, f: &[u8]) -> Option<(Flash, Block, Block)>
 }
 
 // Their pages, none of them come yet.
-fn awaited(chip: Chip, f: &[u8]) -> Option<Pages>
-    ensures { result ≡ awaited (range chip (sad_of f.now) (ead_of f.now)) }
+// stays: (speed, docs/DESIGN-PASS.md) handed the blocks: with the reading of the pair in it, it is a call of its own, and the room for what it answers
+// is filled with zeros at every command, where the engine is put into its caller.
+fn awaited(blocks: Option<(Flash, Block, Block)>) -> Option<Pages>
+    ensures { result ≡ awaited blocks }
 {
-    let (g, a, b) = blocks_named(chip, f)?;
+    let (g, a, b) = blocks?;
     Some(tasks::pages_awaited(g, a, b))
 }
 
@@ -296,10 +298,18 @@ pub(crate) fn obey(
     let command = byte_at(f, 2);
     match command {
         0x00 => acknowledge(phase, Task::Idle, o, reply),
-        0x13 => begin(c, awaited(chip, f).map(Task::Verifying), reply),
+        0x13 => begin(
+            c,
+            awaited(blocks_named(chip, f)).map(Task::Verifying),
+            reply,
+        ),
         0x22 => erase(chip, c, address_at(f, 3), code, data, reply),
         0x32 => check_blank(chip, c, f, &*code, &*data, reply),
-        0x40 => begin(c, awaited(chip, f).map(Task::Programming), reply),
+        0x40 => begin(
+            c,
+            awaited(blocks_named(chip, f)).map(Task::Programming),
+            reply,
+        ),
         0x9A => set_speed(c, byte_at(f, 3), byte_at(f, 4), reply),
         0x9C => identify(c, f, &*code, reply),
         0xA0 => secure(phase, security_set(o, byte_at(f, 3), byte_at(f, 4)), reply),

@@ -1,6 +1,6 @@
 -- One byte taken, in the terms of a count and a frame buffer. Assumes nothing.
 use mathlib.Core.Path.{◌≡◌, refl, sym, ap, ◌∙◌}
-use mathlib.Core.Bool.{Bool, true, false, cond, ◌||◌}
+use mathlib.Core.Bool.{Bool, true, false, cond, false≢true, ◌||◌}
 use mathlib.Core.List.{List, [], ◌∷◌, ◌++◌}
 use mathlib.Core.Logic.{◌⊎◌, inl, inr}
 use Prim.Native.Nat.{ℕ, ◌+◌, ◌<◌, ◌≤◌}
@@ -138,6 +138,13 @@ is_mode p e = grind arith
 -- a phase that takes frames is neither silent nor the one that waits for a mode byte
 pub takes_frames : (p : Phase) → listening p ≡ true → (phase_number p ≡ 4 → ⊥) × (phase_number p ≡ 0 → ⊥)
 takes_frames p e = grind arith
+
+pub only_mode : (p : Phase) → listening p ≡ false → (p ≡ Silent → ⊥) → p ≡ Mode
+only_mode Mode e n = refl
+only_mode Speed e n = absurd (false≢true (sym e))
+only_mode Ident e n = absurd (false≢true (sym e))
+only_mode Command e n = absurd (false≢true (sym e))
+only_mode Silent e n = absurd (n refl)
 
 module _ (chip : Chip) (s : State) (b : ℕ) where
   by_phase : (p : Phase) → s.phase ≡ p → takes p chip s b ≡ step chip s b

@@ -138,6 +138,7 @@ pub fn listens(phase: Phase) -> bool
 
 // The byte call, answered by what it changes: the refusals first, then the byte by its phase. Each way answers by itself: where all are joined in one value,
 // an engine that stays a call fills the whole of it for a byte that only goes on.
+// stays: (speed, docs/DESIGN-PASS.md) asked first whether the phase takes frames, which is one comparison; a match over all phases made the phase a wider number at each byte.
 // stays: both flashes and the reply buffer are parameters one by one, here and in the calls above (public signatures; C lends each by itself: `rattle_called`).
 pub fn byte_change(
     chip: Chip,
@@ -152,16 +153,17 @@ pub fn byte_change(
     ensures stands { Stands (call_number (call_of result)) held.old held.new }
 {
     lent::lent_verdict(chip, code.len(), data.len(), reply.len())?;
-    match c.phase {
-        Phase::Silent => return Ok(Change::Held(c.have)),
-        Phase::Mode => {
-            return Ok(Change::Whole(Response {
-                core: resting::at_rest(tasks::after_mode(byte), Task::Idle, c.options),
-                answered: 0,
-                note: None,
-            }));
+    if !listens(c.phase) {
+        match c.phase {
+            Phase::Silent => return Ok(Change::Held(c.have)),
+            _ => {
+                return Ok(Change::Whole(Response {
+                    core: resting::at_rest(tasks::after_mode(byte), Task::Idle, c.options),
+                    answered: 0,
+                    note: None,
+                }));
+            }
         }
-        Phase::Speed | Phase::Ident | Phase::Command => {}
     }
     if let Some(n) = receive(chip, c, byte, held) {
         return Ok(Change::Held(n));

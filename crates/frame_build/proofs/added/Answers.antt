@@ -1,22 +1,15 @@
--- `frame_build::added` meets its contract: with the bytes passed the sum is theirs modulo 256. Assumes nothing.
-use Rattle.std.proofs.Common.{◌≡◌, ℕ, ◌+◌, ◌%◌, ◌<◌, List, [], ◌∷◌, rules, arith}
-use Rattle.std.specs.List.{fold}
-use Rattle.std.proofs.lemmas.Iterator.{YieldsList-from_slice}
-use Rattle.std.proofs.lemmas.Iterator.Consumers.{fold_from_yields_List}
+-- `frame_build::added` meets its contract: the loop's sum is that of the bytes passed, modulo 256. Assumes nothing.
+use Rattle.std.proofs.Common.{arith}
 use Rattle.rules.specs.Chip.{total}
+use Rattle.rules.proofs.Bytes.{total_more}
 use Rattle.frame_build.proofs.added.Goals as goal
 
-abbrev more : ℕ → ℕ → ℕ
-more sum byte = (sum + byte) % 256
-
-summed : (xs : List ℕ) (sum : ℕ) → sum < 256 → fold more sum xs ≡ (sum + total xs) % 256
+pub loop-byte-init : goal.loop-byte-init
 unfolding total
-summed [] sum h = omega arith
-summed (x ∷ xs) sum h = let r = summed xs (more sum x) (omega arith) in omega arith
+loop-byte-init c = omega arith
 
-pub returns : goal.returns
-returns c =
-    let s = c.args.line.now in
-    let e = fold_from_yields_List _ more 0 c.fold.result c.fold.ensures.ran (YieldsList-from_slice s c.iter.ensures.rest) (λ a x b q k. search rules) in
-    let t = summed s 0 (omega arith) in
-    omega arith
+pub loop-byte-preserved : goal.loop-byte-preserved
+loop-byte-preserved c =
+    let i = c.loop-byte.byte-index in
+    let line = c.args.line.now in
+    omega (arith, total_more line i (omega arith), c.loop-byte.invariant)

@@ -14,7 +14,7 @@ use Rattle.rules.specs.StandIn.{on_judged}
 use Rattle.chip_finder.specs.LentFlashes.{memory}
 use Rattle.standin_state.specs.View.{idle}
 use Rattle.standin_verdict.proofs.Readings.{at_code, unlisted}
-use Rattle.standin_command.specs.Ordered.{on_order}
+use Rattle.standin_command.specs.Ordered.{awaited, on_order}
 use Rattle.standin_state.proofs.Handed.{same_out}
 use Rattle.standin_command.proofs.Refusals.{range_begun}
 use Rattle.standin_command.proofs.orders.obey.Goals as goal
@@ -36,7 +36,7 @@ returns-in-19 c =
     let m = memory a.code.now a.«data».now in
     let pages = range a.chip (sad_of f) (ead_of f) in
     let d = at_code a.chip f _ _ c.byte_at-command.ensures c.in-19.is (over_blocks Verify pages) refl in
-    let begins = range_begun a.chip a.c m f Verify Verifying (λ g x y. refl) pages _ _ c.awaited.ensures c.map.ensures.cases in
+    let begins = range_begun a.chip a.c m f Verify Verifying (λ g x y. refl) pages _ _ (c.awaited.ensures ∙ ap awaited c.blocks_named.ensures) c.map.ensures.cases in
     same_out _ _ _ _ _ _ (begins ∙ ap (on_order a.chip a.c m f) d) (c.begin.ensures m)
 
 pub returns-in-34 : goal.returns-in-34
@@ -65,7 +65,7 @@ returns-in-64 c =
     let m = memory a.code.now a.«data».now in
     let pages = range a.chip (sad_of f) (ead_of f) in
     let d = at_code a.chip f _ _ c.byte_at-command.ensures c.in-64.is (over_blocks Program pages) refl in
-    let begins = range_begun a.chip a.c m f Program Programming (λ g x y. refl) pages _ _ c.awaited-in-64.ensures c.map-in-64.ensures.cases in
+    let begins = range_begun a.chip a.c m f Program Programming (λ g x y. refl) pages _ _ (c.awaited-in-64.ensures ∙ ap awaited c.blocks_named-in-64.ensures) c.map-in-64.ensures.cases in
     same_out _ _ _ _ _ _ (begins ∙ ap (on_order a.chip a.c m f) d) (c.begin-in-64.ensures m)
 
 pub returns-in-154 : goal.returns-in-154
